@@ -1,0 +1,5 @@
+pub mod Variables
+pub mod Term
+pub mod Unify
+pub mod Model
+pub mod Refusals

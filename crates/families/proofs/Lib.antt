@@ -1,0 +1,7 @@
+pub mod Lists
+pub mod Tests
+pub mod Masks
+pub mod Values
+pub mod Unions
+pub mod Words
+pub mod Loops

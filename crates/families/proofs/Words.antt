@@ -1,0 +1,206 @@
+-- What lies in words, word by word: the laws of `lies` that the code over words stands on. Over any number of words.
+-- Assumes nothing.
+use mathlib.Core.Path.{_≡_, refl, sym, ap, ap₂, subst, _∙_}
+use mathlib.Core.Bool.{Bool, true, false, cond, _&&_, _||_}
+use mathlib.Core.List.{List, [], _∷_}
+use mathlib.Core.Logic.{_≢_, inl, inr, ⊎-elim}
+use Prim.Native.Nat.{ℕ, zero, suc, _+_, _*_, _/_, _%_, _^_, _<_, _≤_}
+use native.Mathlib.Nat.{pow-suc}
+use native.Mathlib.Omega.{arith}
+use lib.Bits.{bitAnd, bitOr, and-mask}
+use lib.Count.{ones, ones-step}
+use lib.Dec.{T, eqb, eqb→eq, eqb-refl, ltb, ltb→lt, lt→ltb}
+use lib.ListN.{length, getD, set}
+use lib.Seq.{getD-set-same, getD-set-other}
+use Rattle.std.proofs.shelf.Bits.{one-shl}
+use Rattle.std.proofs.shelf.Lists.{getD-past}
+use Rattle.std.proofs.shelf.Tests.{cases-eq, cases-lt, eq-eqb, ne-eqb}
+use Rattle.families.specs.Masks.{bit, count}
+use Rattle.families.specs.declared.family.Family.{Family}
+use Rattle.families.specs.Words.{word, sets, lies, holds}
+use Rattle.families.proofs.Tests.{and-split, and-pair, or-split, or-left, or-right, or-false, same-test}
+use Rattle.families.proofs.Masks.{bit-zero, bit-suc, zero-bits, same-bits, below-bits, bit-or, bit-power, power-bit}
+
+-- ---- one word
+
+pub no-bit : (i : ℕ) → bit 0 i ≡ false
+no-bit i = same-test (bit 0 i) false (zero-bits i) (λ t. absurd t)
+
+pub high-bit : (n g i : ℕ) → g < 2 ^ n → n ≤ i → bit g i ≡ false
+high-bit n g i below high = same-test (bit g i) false (below-bits n g i below high) (λ t. absurd t)
+
+-- the test of a bit by a shift and a mask
+pub shifted-bit : (w i : ℕ) → eqb (bitAnd (w / 2 ^ i) 1) 1 ≡ bit w i
+unfolding bit
+shifted-bit w i = ap (λ (n : ℕ). eqb n 1) (and-mask (w / 2 ^ i) 1)
+
+pub power-test : (j i : ℕ) → bit (2 ^ j) i ≡ eqb i j
+power-test j i =
+    same-test (bit (2 ^ j) i) (eqb i j) (λ t. subst (λ (k : ℕ). T (eqb i k)) (power-bit j i t) (eqb-refl i))
+    (λ t. subst (λ (k : ℕ). T (bit (2 ^ j) k)) (sym (eqb→eq i j t)) (bit-power j))
+
+-- ---- in words
+
+pub lies-none : (ws : List ℕ) → ((k : ℕ) → getD ws k 0 ≡ 0) → (g : ℕ) → lies ws g ≡ false
+unfolding lies
+lies-none ws zeros g = ap (λ (w : ℕ). bit w (g % word)) (zeros (g / word)) ∙ no-bit (g % word)
+
+-- at bit i of word k
+pub lies-at : (ws : List ℕ) (k i : ℕ) → i < word → lies ws (word * k + i) ≡ bit (getD ws k 0) i
+unfolding lies
+lies-at ws k i low =
+    let e : (word * k + i) / word ≡ k = omega arith in
+    let f : (word * k + i) % word ≡ i = omega arith in
+    ap₂ (λ (a b : ℕ). bit (getD ws a 0) b) e f
+
+-- ---- a family, by its words
+
+pub holds-low : (f : Family) (g : ℕ) → T (holds f g) → g < sets
+unfolding holds
+holds-low f g t = ltb→lt g sets (and-split (ltb g sets) (lies (f .words) g) t .0)
+
+pub holds-lies : (f : Family) (g : ℕ) → g < sets → holds f g ≡ lies (f .words) g
+unfolding holds
+holds-lies f g low =
+    same-test (ltb g sets && lies (f .words) g) (lies (f .words) g) (λ t. and-split (ltb g sets) (lies (f .words) g) t .1)
+    (and-pair (ltb g sets) (lies (f .words) g) (lt→ltb g sets low))
+
+pub holds-past : (f : Family) (g : ℕ) → sets ≤ g → holds f g ≡ false
+holds-past f g past = same-test (holds f g) false (λ t. let l = holds-low f g t in omega arith) (λ t. absurd t)
+
+-- what lies in its words is all that a family has
+pub by-words : (f : Family) (a : ℕ → Bool) → ((g : ℕ) → g < sets → lies (f .words) g ≡ a g) → ((g : ℕ) → sets ≤ g → a g ≡ false) → (g : ℕ) → holds f g ≡ a g
+by-words f a low past g =
+    ⊎-elim (λ l. holds-lies f g l ∙ low g l) (λ l. holds-past f g l ∙ sym (past g l)) (cases-lt g sets)
+
+-- ---- one more
+
+module _ (ws : List ℕ) (g : ℕ) (there : g / word < length ws) where
+  abbrev put : List ℕ
+  put = set ws (g / word) (bitOr (getD ws (g / word) 0) (1 * 2 ^ (g % word) % 2 ^ word))
+
+  same-word : (h : ℕ) → h / word ≡ g / word → lies put h ≡ (lies ws h || eqb h g)
+  unfolding lies
+  same-word h e =
+      let w = getD ws (g / word) 0 in
+      let low : g % word < word = omega arith in
+      let one : getD put (h / word) 0 ≡ bitOr w (2 ^ (g % word)) =
+      ap (λ (k : ℕ). getD put k 0) e ∙ getD-set-same ws (g / word) _ 0 there ∙ ap (bitOr w) (one-shl (g % word) word low) in
+      let same : eqb (h % word) (g % word) ≡ eqb h g =
+      same-test (eqb (h % word) (g % word)) (eqb h g)
+      (λ t. let m = eqb→eq (h % word) (g % word) t in let n : h ≡ g = omega arith in subst (λ (k : ℕ). T (eqb h k)) n (eqb-refl h))
+      (λ t. subst (λ (k : ℕ). T (eqb (h % word) (k % word))) (eqb→eq h g t) (eqb-refl (h % word))) in
+      ap (λ (v : ℕ). bit v (h % word)) one
+      ∙ bit-or w (2 ^ (g % word)) (h % word)
+      ∙ ap₂ (λ (b c : Bool). b || c) (ap (λ (k : ℕ). bit (getD ws k 0) (h % word)) (sym e)) (power-test (g % word) (h % word) ∙ same)
+
+  other-word : (h : ℕ) → (h / word ≡ g / word → ⊥) → lies put h ≡ (lies ws h || eqb h g)
+  unfolding lies
+  other-word h n =
+      let apart : eqb h g ≡ false = ne-eqb h g (λ e. n (ap (λ (k : ℕ). k / word) e)) in
+      let kept = getD-set-other ws (g / word) (h / word) (bitOr (getD ws (g / word) 0) (1 * 2 ^ (g % word) % 2 ^ word)) 0 n in
+      ap (λ (v : ℕ). bit v (h % word)) kept ∙ or-false (bit (getD ws (h / word) 0) (h % word)) (eqb h g) apart
+
+  pub lies-put : (h : ℕ) → lies put h ≡ (lies ws h || eqb h g)
+  lies-put h = ⊎-elim (same-word h) (other-word h) (cases-eq (h / word) (g / word))
+
+-- ---- union and inclusion, word by word
+
+pub lies-or : (us vs ws : List ℕ) (g : ℕ) → getD ws (g / word) 0 ≡ bitOr (getD us (g / word) 0) (getD vs (g / word) 0) → lies ws g ≡ (lies us g || lies vs g)
+unfolding lies
+lies-or us vs ws g here =
+    ap (λ (w : ℕ). bit w (g % word)) here ∙ bit-or (getD us (g / word) 0) (getD vs (g / word) 0) (g % word)
+
+pub or-within : (us vs : List ℕ) (g : ℕ) → bitOr (getD us (g / word) 0) (getD vs (g / word) 0) ≡ getD vs (g / word) 0 → T (lies us g) → T (lies vs g)
+or-within us vs g here t = subst T (sym (lies-or us vs vs g (sym here))) (or-left (lies us g) (lies vs g) t)
+
+pub within-or : (us vs : List ℕ) (k : ℕ) → getD us k 0 < 2 ^ word → ((i : ℕ) → i < word → T (lies us (word * k + i)) → T (lies vs (word * k + i))) → bitOr (getD us k 0) (getD vs k 0) ≡ getD vs k 0
+within-or us vs k fits each = same-bits (bitOr a b) b to from
+  where
+    a : ℕ
+    a = getD us k 0
+
+    b : ℕ
+    b = getD vs k 0
+
+    carried : (i : ℕ) → i < word → T (bit a i) → T (bit b i)
+    carried i low t = subst T (lies-at vs k i low) (each i low (subst T (sym (lies-at us k i low)) t))
+
+    to : (i : ℕ) → T (bit (bitOr a b) i) → T (bit b i)
+    to i t =
+        ⊎-elim (λ l. ⊎-elim (λ low. carried i low l) (λ high. absurd (below-bits word a i fits high l)) (cases-lt i word)) (λ r. r)
+        (or-split (bit a i) (bit b i) (subst T (bit-or a b i) t))
+
+    from : (i : ℕ) → T (bit b i) → T (bit (bitOr a b) i)
+    from i t = subst T (sym (bit-or a b i)) (or-right (bit a i) (bit b i) t)
+
+-- ---- counting
+
+pub count-alike : (n : ℕ) (p q : ℕ → Bool) → ((k : ℕ) → k < n → p k ≡ q k) → count n p ≡ count n q
+unfolding count
+count-alike zero p q same = refl
+count-alike (suc n) p q same =
+    ap₂ (λ (b : Bool) (m : ℕ). cond b 1 0 + m) (same n (omega arith)) (count-alike n p q (λ k l. same k (omega arith)))
+
+-- from the low end
+count-low : (n : ℕ) (p : ℕ → Bool) → count (suc n) p ≡ cond (p 0) 1 0 + count n (λ k. p (suc k))
+unfolding count
+count-low zero p = refl
+count-low (suc n) p = let rest = count-low n p in omega arith
+
+pub count-more : (m n : ℕ) (p : ℕ → Bool) → count (m + n) p ≡ count m p + count n (λ k. p (m + k))
+unfolding count
+count-more m zero p = let e : m + 0 ≡ m = omega arith in let f = ap (λ (k : ℕ). count k p) e in omega arith
+count-more m (suc n) p =
+    let rest = count-more m n p in
+    let e : m + suc n ≡ suc (m + n) = omega arith in
+    let f : count (m + suc n) p ≡ cond (p (m + n)) 1 0 + count (m + n) p = ap (λ (k : ℕ). count k p) e in
+    omega arith
+
+-- the ones of a word
+pub ones-count : (n w : ℕ) → w < 2 ^ n → ones w ≡ count n (bit w)
+unfolding count ones
+ones-count zero w below = let e : w ≡ 0 = omega arith in subst (λ (v : ℕ). ones v ≡ 0) (sym e) refl
+ones-count (suc n) w below =
+    let half : w / 2 < 2 ^ n = omega (arith, pow-suc 2 n) in
+    let rest = ones-count n (w / 2) half in
+    let shift : count n (bit (w / 2)) ≡ count n (λ k. bit w (suc k)) = count-alike n (bit (w / 2)) (λ k. bit w (suc k)) (λ k l. sym (bit-suc w k)) in
+    let low = lowest (bit w 0) (bit-zero w) in
+    let step = ones-step w in
+    let whole = count-low n (bit w) in
+    omega arith
+  where
+    lowest : (b : Bool) → b ≡ eqb (w % 2) 1 → cond b 1 0 ≡ w % 2
+    lowest true e = let f = eqb→eq (w % 2) 1 (subst T e tt) in omega arith
+    lowest false e =
+        ⊎-elim (λ one. absurd (subst T (sym (e ∙ eq-eqb (w % 2) 1 one)) tt)) (λ n. omega arith) (cases-eq (w % 2) 1)
+
+-- one word more
+pub count-word : (ws : List ℕ) (k : ℕ) → getD ws k 0 < 2 ^ word → count (word * (k + 1)) (lies ws) ≡ count (word * k) (lies ws) + ones (getD ws k 0)
+count-word ws k fits =
+    let e : word * (k + 1) ≡ word * k + word = omega arith in
+    let split = ap (λ (n : ℕ). count n (lies ws)) e ∙ count-more (word * k) word (lies ws) in
+    let at : count word (λ i. lies ws (word * k + i)) ≡ count word (bit (getD ws k 0)) =
+    count-alike word (λ i. lies ws (word * k + i)) (bit (getD ws k 0)) (lies-at ws k) in
+    let all = ones-count word (getD ws k 0) fits in
+    omega arith
+
+-- none passes where none is counted, and the other way round
+pub count-none : (n : ℕ) (p : ℕ → Bool) → count n p ≡ 0 → (k : ℕ) → k < n → T (p k) → ⊥
+unfolding count
+count-none zero p e k l t = omega arith
+count-none (suc n) p e k l t = step (p n) refl e (count-none n p)
+  where
+    step : (b : Bool) → p n ≡ b → cond b 1 0 + count n p ≡ 0 → (count n p ≡ 0 → (k : ℕ) → k < n → T (p k) → ⊥) → ⊥
+    step true f e rest = omega arith
+    step false f e rest =
+        ⊎-elim (λ here. subst T (ap p here ∙ f) t) (λ d. rest (omega arith) k (omega arith) t) (cases-eq k n)
+
+pub none-count : (n : ℕ) (p : ℕ → Bool) → ((k : ℕ) → T (p k) → ⊥) → count n p ≡ 0
+unfolding count
+none-count zero p none = refl
+none-count (suc n) p none = step (p n) (none n) (none-count n p none)
+  where
+    step : (b : Bool) → (T b → ⊥) → count n p ≡ 0 → cond b 1 0 + count n p ≡ 0
+    step true f e = absurd (f tt)
+    step false f e = omega arith

@@ -1,0 +1,23 @@
+use mathlib.Core.Path.{_≡_, _∙_, ap, ap₂, sym}
+use mathlib.Core.Bool.{Bool, false, _||_, _&&_}
+use Prim.Native.Nat.{ℕ, _<_, _≤_, _/_}
+use native.Mathlib.Omega.{arith}
+use lib.Dec.{eqb, ltb}
+use lib.ListN.{length}
+use Rattle.std.proofs.shelf.Tests.{lt-ltb, ne-eqb, and-left}
+use Rattle.families.specs.Words.{word, sets, holds, lies}
+use Rattle.families.proofs.Words.{by-words, holds-lies, holds-past, lies-put}
+use Rattle.families.proofs.Tests.{and-true}
+use Rattle.families.proofs.family.Family.insert.Needs as need
+
+pub returns-then-g-lt-SETS : need.returns-then-g-lt-SETS
+returns-then-g-lt-SETS c =
+    let f = c .args .self .now in
+    let g = c .args .g in
+    let low : g < sets = c .if-g-lt-SETS .taken in
+    let there : g / word < length (f .words) = omega arith in
+    by-words _ (λ h. holds f h || (eqb h g && ltb g sets))
+    (λ h l.
+    lies-put (f .words) g there h
+    ∙ ap₂ _||_ (sym (holds-lies f h l)) (and-true (eqb h g) (ltb g sets) (lt-ltb g sets low)))
+    (λ h l. ap₂ _||_ (holds-past f h l) (and-left (eqb h g) (ltb g sets) (ne-eqb h g (λ e. omega arith))))

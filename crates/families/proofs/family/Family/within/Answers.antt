@@ -1,0 +1,39 @@
+use mathlib.Core.Path.{_≡_, sym, subst}
+use Prim.Native.Nat.{ℕ, _<_, _≤_, _+_, _*_, _/_, _^_}
+use native.Mathlib.Omega.{arith}
+use lib.Dec.{T}
+use lib.ListN.{getD}
+use Rattle.families.specs.Words.{word, sets, holds, lies}
+use Rattle.families.proofs.Words.{holds-low, holds-lies, or-within, within-or}
+use Rattle.families.proofs.family.Family.within.Needs as need
+
+pub returns-then-self-i : need.returns-then-self-i
+returns-then-self-i c =
+    let a = c .args .self .now in
+    let b = c .args .other .now in
+    let k = c .loop-i .i in
+    let few : k < 4 = c .loop-i-test .taken in
+    let fits : getD (a .words) k 0 < 2 ^ word = omega arith in
+    record {
+      yes = λ t. absurd t;
+      only = λ each.
+          c .if-self-i .taken
+          (within-or (a .words) (b .words) k fits
+          (λ i l t.
+          let g : ℕ = word * k + i in
+          let low : g < sets = omega arith in
+          subst T (holds-lies b g low) (each g (subst T (sym (holds-lies a g low)) t))));
+    }
+
+pub returns : need.returns
+returns c =
+    let a = c .args .self .now in
+    let b = c .args .other .now in
+    let done : 4 ≤ c .loop-i .i = c .loop-i-test .left in
+    record {
+      yes = λ t g held.
+          let low = holds-low a g held in
+          subst T (sym (holds-lies b g low))
+          (or-within (a .words) (b .words) g (c .loop-i .inv (g / word) (omega arith)) (subst T (holds-lies a g low) held));
+      only = λ each. tt;
+    }

@@ -1,0 +1,4 @@
+pub mod Masks
+pub mod Values
+pub mod Unions
+pub mod Words

@@ -1,0 +1,48 @@
+-- Sets of variables, coded as masks: variable i is in g where bit i of g is 1. Tests and counts over the numbers below
+-- a bound.
+use mathlib.Core.Bool.{Bool, true, false, not, _&&_, _||_, cond}
+use mathlib.Core.List.{List, [], _∷_, map}
+use Prim.Native.Nat.{ℕ, zero, suc, _+_, _*_, _/_, _%_, _^_}
+use lib.Bits.{bitAnd}
+use lib.Dec.{eqb}
+
+-- variable i is in g
+unfoldable pub bit : ℕ → ℕ → Bool
+bit g i = eqb (g / 2 ^ i % 2) 1
+
+-- the mask with these bits, the lowest first
+unfoldable pub pack : List Bool → ℕ
+pack [] = 0
+pack (b ∷ bs) = 2 * pack bs + cond b 1 0
+
+-- g at the variables listed, numbered by position
+unfoldable pub cut : List ℕ → ℕ → ℕ
+cut xs g = pack (map (bit g) xs)
+
+-- some variable listed is in g
+unfoldable pub meets : List ℕ → ℕ → Bool
+meets [] g = false
+meets (y ∷ ys) g = bit g y || meets ys g
+
+-- some variable is in both
+unfoldable pub overlaps : ℕ → ℕ → Bool
+overlaps g h = not (eqb (bitAnd g h) 0)
+
+-- some number below n passes
+unfoldable pub any : ℕ → (ℕ → Bool) → Bool
+any zero p = false
+any (suc n) p = p n || any n p
+
+-- every number below n passes
+unfoldable pub all : ℕ → (ℕ → Bool) → Bool
+all zero p = true
+all (suc n) p = p n && all n p
+
+-- how many numbers below n pass
+unfoldable pub count : ℕ → (ℕ → Bool) → ℕ
+count zero p = 0
+count (suc n) p = cond (p n) 1 0 + count n p
+
+-- of the variables below n, each that is in g is in h
+unfoldable pub within : ℕ → ℕ → ℕ → Bool
+within n g h = all n (λ i. not (bit g i) || bit h i)

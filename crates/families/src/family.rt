@@ -1,0 +1,148 @@
+// A set of sets of variables, one bit for each set.
+ghost use mathlib.Core.Path.{_≡_};
+ghost use mathlib.Core.Bool.{Bool, false, _&&_, _||_};
+ghost use mathlib.Core.Logic.{_↔_};
+ghost use Prim.Native.Nat.{ℕ, _<_};
+ghost use lib.Dec.{T, eqb, ltb};
+ghost use lib.ListN.{take};
+ghost use Rattle.domain.specs.Variables.{widest};
+ghost use Rattle.families.specs.Masks.{bit, any, count as counted, cut as cut-down};
+ghost use Rattle.families.specs.Unions.{Selection, Inside};
+ghost use Rattle.families.specs.Words.{holds, sets};
+use super::mask;
+use super::mask::Mask;
+
+// The sets of variables below the largest width, and the words that hold a bit for each.
+const SETS: usize = 256;
+
+const WORDS: usize = 4;
+
+#[derive(Clone, Copy)]
+pub struct Family {
+    words: [u64; WORDS],
+}
+
+// A test of sets, to filter a family by.
+pub trait Test {
+    ghost passes: { Self → ℕ → Bool };
+
+    fn admits(&self, g: Mask) -> bool
+        ensures { λ r. ⌜ r ≡ passes (now (self .entry)) g ⌝ };
+}
+
+impl Family {
+    // No set at all.
+    pub fn new() -> Family
+        ensures { λ r. ⌜ ((g : ℕ) → holds r g ≡ false) ⌝ }
+    {
+        Family { words: [0; WORDS] }
+    }
+
+    pub fn has(&self, g: Mask) -> bool
+        ensures { λ r. ⌜ r ≡ holds (now (self .entry)) g ⌝ }
+    {
+        g < SETS && (self.words[g / 64] >> (g % 64)) & 1 == 1
+    }
+
+    // A set past the largest width is left out.
+    pub fn insert(&mut self, g: Mask)
+        ensures { λ _. ⌜ ((h : ℕ) → holds (now (self .exit)) h ≡ (holds (now (self .entry)) h || (eqb h g && ltb g sets))) ⌝ }
+    {
+        if g < SETS {
+            self.words[g / 64] |= 1 << (g % 64);
+        }
+    }
+
+    pub fn union(&self, other: &Family) -> Family
+        ensures { λ r. ⌜ ((g : ℕ) → holds r g ≡ (holds (now (self .entry)) g || holds (now (other .entry)) g)) ⌝ }
+    {
+        let mut words = [0; WORDS];
+        for i in 0..WORDS {
+            words[i] = self.words[i] | other.words[i];
+        }
+        Family { words }
+    }
+
+    // Whether each set of this family is one of the other's.
+    pub fn within(&self, other: &Family) -> bool
+        ensures yes { λ r. ⌜ (T r → (g : ℕ) → T (holds (now (self .entry)) g) → T (holds (now (other .entry)) g)) ⌝ }
+        ensures only { λ r. ⌜ (((g : ℕ) → T (holds (now (self .entry)) g) → T (holds (now (other .entry)) g)) → T r) ⌝ }
+    {
+        for i in 0..WORDS {
+            if self.words[i] | other.words[i] != other.words[i] {
+                return false;
+            }
+        }
+        true
+    }
+
+    // How many sets there are: the ones in the words.
+    pub fn count(&self) -> u16
+        ensures { λ r. ⌜ r ≡ counted sets (holds (now (self .entry))) ⌝ }
+    {
+        let mut n = 0;
+        for word in self.words.iter() {
+            n += word.count_ones() as u16;
+        }
+        n
+    }
+
+    pub fn is_empty(&self) -> bool
+        ensures yes { λ r. ⌜ (T r → (g : ℕ) → T (holds (now (self .entry)) g) → ⊥) ⌝ }
+        ensures only { λ r. ⌜ (((g : ℕ) → T (holds (now (self .entry)) g) → ⊥) → T r) ⌝ }
+    {
+        self.count() == 0
+    }
+
+    // The sets that pass the test.
+    pub fn filtered<P: Test>(&self, test: &P) -> Family
+        ensures { λ r. ⌜ ((g : ℕ) → holds r g ≡ (holds (now (self .entry)) g && P·Test .passes (now (test .entry)) g)) ⌝ }
+    {
+        let mut passing = Family::new();
+        for g in 0..SETS {
+            if self.has(g) && test.admits(g) {
+                passing.insert(g);
+            }
+        }
+        passing
+    }
+
+    // Each set cut down to the first variables listed.
+    pub fn view(&self, xs: &[u8]) -> Family
+        ensures { λ r. ⌜ ((h : ℕ) → holds r h ≡ any sets (λ g. holds (now (self .entry)) g && eqb h (cut-down (take widest (now (xs .entry))) g))) ⌝ }
+    {
+        let mut cuts = Family::new();
+        for g in 0..SETS {
+            if self.has(g) {
+                cuts.insert(mask::cut(g, xs));
+            }
+        }
+        cuts
+    }
+
+    // The unions of any selection of the sets; that of none is the empty set.
+    pub fn unions(&self) -> Family
+        ensures { λ r. ⌜ ((h : ℕ) → T (holds r h) ↔ (Selection (λ g. T (holds (now (self .entry)) g)) h × (h < sets))) ⌝ }
+    {
+        let mut made = Family::new();
+        for h in 0..SETS {
+            if self.union_within(h) == h {
+                made.insert(h);
+            }
+        }
+        made
+    }
+
+    // The union of the sets that lie within h: h itself, just where h is a union of some of them.
+    fn union_within(&self, h: Mask) -> Mask
+        ensures { λ r. ⌜ ((i : ℕ) → T (bit r i) ↔ ((g : ℕ) × T (holds (now (self .entry)) g) × Inside g h × T (bit g i))) ⌝ }
+    {
+        let mut all = mask::EMPTY;
+        for g in 0..SETS {
+            if self.has(g) && g | h == h {
+                all |= g;
+            }
+        }
+        all
+    }
+}

@@ -1,0 +1,9 @@
+// Families of sets of variables as bit maps over words: the ground that domains stand on whose values are such families.
+// It knows nothing of terms, and nothing of what a family means.
+mod family;
+mod filters;
+pub mod mask;
+
+pub use family::Family;
+pub use family::Test;
+pub use mask::Mask;

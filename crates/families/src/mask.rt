@@ -1,0 +1,60 @@
+// A set of variables as a mask: variable i is in it where bit i is 1.
+ghost use mathlib.Core.Path.{_≡_};
+ghost use mathlib.Core.Logic.{_↔_};
+ghost use Prim.Native.Nat.{ℕ, _<_};
+ghost use lib.Dec.{T};
+ghost use lib.ListN.{take};
+ghost use Rattle.domain.specs.Variables.{Listed, widest};
+ghost use Rattle.families.specs.Masks.{bit, cut as cut-down};
+use domain::WIDEST;
+
+pub type Mask = usize;
+
+// The set without variables.
+pub const EMPTY: Mask = 0;
+
+// Whether x is in the set.
+pub fn contains(g: Mask, x: u8) -> bool
+    ensures { λ r. ⌜ r ≡ bit g x ⌝ }
+{
+    x < 64 && (g >> x) & 1 == 1
+}
+
+// The variable x alone; nothing where x is not below the largest width.
+pub fn only(x: u8) -> Mask
+    ensures { λ r. ⌜ ((i : ℕ) → T (bit r i) ↔ ((i ≡ x) × (i < widest))) ⌝ }
+{
+    if x < WIDEST { 1 << x } else { EMPTY }
+}
+
+// The variables listed, as far as they are below the largest width.
+pub fn of(xs: &[u8]) -> Mask
+    ensures { λ r. ⌜ ((i : ℕ) → T (bit r i) ↔ (Listed i (now (xs .entry)) × (i < widest))) ⌝ }
+{
+    let mut all = EMPTY;
+    for x in xs {
+        all |= only(*x);
+    }
+    all
+}
+
+// The first variables listed, as many as the largest width.
+pub fn first(xs: &[u8]) -> &[u8]
+    ensures { λ r. ⌜ now r ≡ take widest (now (xs .entry)) ⌝ }
+{
+    let n = xs.len().min(WIDEST as usize);
+    &xs[0..n]
+}
+
+// The set cut down to the first variables listed, and numbered by position.
+pub fn cut(g: Mask, xs: &[u8]) -> Mask
+    ensures { λ r. ⌜ r ≡ cut-down (take widest (now (xs .entry))) g ⌝ }
+{
+    let mut places = EMPTY;
+    for (i, x) in first(xs).iter().enumerate() {
+        if contains(g, *x) {
+            places |= 1 << i;
+        }
+    }
+    places
+}

@@ -1,0 +1,13 @@
+pub mod Terms
+pub mod Picks
+pub mod Moves
+pub mod TieLaw
+pub mod BackLaw
+pub mod Places
+pub mod Growth
+pub mod Rules
+pub mod Closure
+pub mod Joins
+pub mod Exactness
+pub mod Reading
+pub mod Laws
