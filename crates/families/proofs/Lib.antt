@@ -1,7 +1,10 @@
 pub mod Lists
 pub mod Tests
 pub mod Masks
+pub mod Counts
 pub mod Values
 pub mod Unions
 pub mod Words
 pub mod Loops
+pub mod Listings
+pub mod Overlaps

@@ -79,3 +79,7 @@ passes-member (suc n) t g l h = go (t n) refl (passes-member n t g)
     go false e rest =
         ⊎-elim (λ here. let h′ : T (t n) = subst (λ (k : ℕ). T (t k)) here h in absurd (subst (λ (b : Bool). T b) e h′))
         (λ d. rest (omega arith) h) (cases-eq g n)
+
+-- the same sets with another property
+pub selection-map : {P Q : ℕ → Type 0} (h : ℕ) → ((g : ℕ) → P g → Q g) → Selection P h → Selection Q h
+selection-map h f s = record { sets = s .sets; each = λ g l. f g (s .each g l); whole = s .whole }

@@ -11,6 +11,7 @@ use Rattle.std.proofs.shelf.Tests.{cases-eq, cases-lt}
 use Rattle.domain.specs.Variables.{widest}
 use Rattle.families.specs.Masks.{cut, count}
 use Rattle.families.specs.Values.{Value, Under, Fits, viewed, viewed-has, rank}
+use Rattle.families.proofs.Counts.{count-le, count-same}
 use Rattle.families.proofs.Tests.{and-split, and-pair, and-grows, same-test, any-some, some-any}
 
 -- ---- the order
@@ -50,45 +51,6 @@ view-grows a b under xs = (
       some-any (2 ^ b .width) (λ g. b .has g && eqb h (cut xs g)) g (subst (λ (n : ℕ). g < 2 ^ n) (under .0) l)
       (and-grows (a .has g) (eqb h (cut xs g)) (b .has g) (eqb h (cut xs g)) (under .1 g) (λ e. e) s),
 )
-
--- ---- counts
-
--- one more test counts at most one
-pub count-le : (n : ℕ) (p : ℕ → Bool) → count n p ≤ n
-unfolding count
-count-le zero p = omega arith
-count-le (suc n) p = step (p n) (count-le n p)
-  where
-    step : (b : Bool) → count n p ≤ n → cond b 1 0 + count n p ≤ suc n
-    step true l = omega arith
-    step false l = omega arith
-
-pub count-grows : (n : ℕ) (p q : ℕ → Bool) → ((k : ℕ) → T (p k) → T (q k)) → count n p ≤ count n q
-unfolding count
-count-grows zero p q f = omega arith
-count-grows (suc n) p q f = step (p n) (q n) (f n) (count-grows n p q f)
-  where
-    step : (b c : Bool) → (T b → T c) → count n p ≤ count n q → cond b 1 0 + count n p ≤ cond c 1 0 + count n q
-    step true true i l = omega arith
-    step true false i l = absurd (i tt)
-    step false true i l = omega arith
-    step false false i l = omega arith
-
--- where p passes no less often than q, and q wherever p does, they pass alike
-pub count-same : (n : ℕ) (p q : ℕ → Bool) → ((k : ℕ) → T (p k) → T (q k)) → count n q ≤ count n p → (k : ℕ) → k < n → T (q k) → T (p k)
-unfolding count
-count-same zero p q f e k l t = absurd (omega arith)
-count-same (suc n) p q f e k l t =
-    let rest = count-grows n p q f in
-    let parts = step (p n) (q n) (f n) e rest in
-    ⊎-elim (λ here. subst (λ (j : ℕ). T (p j)) (sym here) (parts .0 (subst (λ (j : ℕ). T (q j)) here t)))
-    (λ d. count-same n p q f (parts .1) k (omega arith) t) (cases-eq k n)
-  where
-    step : (b c : Bool) → (T b → T c) → cond c 1 0 + count n q ≤ cond b 1 0 + count n p → count n p ≤ count n q → (T c → T b) × (count n q ≤ count n p)
-    step true true i h l = (λ u. u, omega arith)
-    step true false i h l = absurd (i tt)
-    step false true i h l = absurd (omega arith)
-    step false false i h l = (λ u. u, omega arith)
 
 -- ---- the rank
 

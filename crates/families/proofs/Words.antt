@@ -8,7 +8,7 @@ use Prim.Native.Nat.{ℕ, zero, suc, _+_, _*_, _/_, _%_, _^_, _<_, _≤_}
 use native.Mathlib.Nat.{pow-suc}
 use native.Mathlib.Omega.{arith}
 use lib.Bits.{bitAnd, bitOr, and-mask}
-use lib.Count.{ones, ones-step}
+use lib.Count.{ones}
 use lib.Dec.{T, eqb, eqb→eq, eqb-refl, ltb, ltb→lt, lt→ltb}
 use lib.ListN.{length, getD, set}
 use lib.Seq.{getD-set-same, getD-set-other}
@@ -18,6 +18,7 @@ use Rattle.std.proofs.shelf.Tests.{cases-eq, cases-lt, eq-eqb, ne-eqb}
 use Rattle.families.specs.Masks.{bit, count}
 use Rattle.families.specs.declared.family.Family.{Family}
 use Rattle.families.specs.Words.{word, sets, lies, holds}
+use Rattle.families.proofs.Counts.{count-alike, count-more, ones-count}
 use Rattle.families.proofs.Tests.{and-split, and-pair, or-split, or-left, or-right, or-false, same-test}
 use Rattle.families.proofs.Masks.{bit-zero, bit-suc, zero-bits, same-bits, below-bits, bit-or, bit-power, power-bit}
 
@@ -134,48 +135,8 @@ within-or us vs k fits each = same-bits (bitOr a b) b to from
     from : (i : ℕ) → T (bit b i) → T (bit (bitOr a b) i)
     from i t = subst T (sym (bit-or a b i)) (or-right (bit a i) (bit b i) t)
 
--- ---- counting
+-- ---- counting, word by word
 
-pub count-alike : (n : ℕ) (p q : ℕ → Bool) → ((k : ℕ) → k < n → p k ≡ q k) → count n p ≡ count n q
-unfolding count
-count-alike zero p q same = refl
-count-alike (suc n) p q same =
-    ap₂ (λ (b : Bool) (m : ℕ). cond b 1 0 + m) (same n (omega arith)) (count-alike n p q (λ k l. same k (omega arith)))
-
--- from the low end
-count-low : (n : ℕ) (p : ℕ → Bool) → count (suc n) p ≡ cond (p 0) 1 0 + count n (λ k. p (suc k))
-unfolding count
-count-low zero p = refl
-count-low (suc n) p = let rest = count-low n p in omega arith
-
-pub count-more : (m n : ℕ) (p : ℕ → Bool) → count (m + n) p ≡ count m p + count n (λ k. p (m + k))
-unfolding count
-count-more m zero p = let e : m + 0 ≡ m = omega arith in let f = ap (λ (k : ℕ). count k p) e in omega arith
-count-more m (suc n) p =
-    let rest = count-more m n p in
-    let e : m + suc n ≡ suc (m + n) = omega arith in
-    let f : count (m + suc n) p ≡ cond (p (m + n)) 1 0 + count (m + n) p = ap (λ (k : ℕ). count k p) e in
-    omega arith
-
--- the ones of a word
-pub ones-count : (n w : ℕ) → w < 2 ^ n → ones w ≡ count n (bit w)
-unfolding count ones
-ones-count zero w below = let e : w ≡ 0 = omega arith in subst (λ (v : ℕ). ones v ≡ 0) (sym e) refl
-ones-count (suc n) w below =
-    let half : w / 2 < 2 ^ n = omega (arith, pow-suc 2 n) in
-    let rest = ones-count n (w / 2) half in
-    let shift : count n (bit (w / 2)) ≡ count n (λ k. bit w (suc k)) = count-alike n (bit (w / 2)) (λ k. bit w (suc k)) (λ k l. sym (bit-suc w k)) in
-    let low = lowest (bit w 0) (bit-zero w) in
-    let step = ones-step w in
-    let whole = count-low n (bit w) in
-    omega arith
-  where
-    lowest : (b : Bool) → b ≡ eqb (w % 2) 1 → cond b 1 0 ≡ w % 2
-    lowest true e = let f = eqb→eq (w % 2) 1 (subst T e tt) in omega arith
-    lowest false e =
-        ⊎-elim (λ one. absurd (subst T (sym (e ∙ eq-eqb (w % 2) 1 one)) tt)) (λ n. omega arith) (cases-eq (w % 2) 1)
-
--- one word more
 pub count-word : (ws : List ℕ) (k : ℕ) → getD ws k 0 < 2 ^ word → count (word * (k + 1)) (lies ws) ≡ count (word * k) (lies ws) + ones (getD ws k 0)
 count-word ws k fits =
     let e : word * (k + 1) ≡ word * k + word = omega arith in
@@ -184,23 +145,3 @@ count-word ws k fits =
     count-alike word (λ i. lies ws (word * k + i)) (bit (getD ws k 0)) (lies-at ws k) in
     let all = ones-count word (getD ws k 0) fits in
     omega arith
-
--- none passes where none is counted, and the other way round
-pub count-none : (n : ℕ) (p : ℕ → Bool) → count n p ≡ 0 → (k : ℕ) → k < n → T (p k) → ⊥
-unfolding count
-count-none zero p e k l t = omega arith
-count-none (suc n) p e k l t = step (p n) refl e (count-none n p)
-  where
-    step : (b : Bool) → p n ≡ b → cond b 1 0 + count n p ≡ 0 → (count n p ≡ 0 → (k : ℕ) → k < n → T (p k) → ⊥) → ⊥
-    step true f e rest = omega arith
-    step false f e rest =
-        ⊎-elim (λ here. subst T (ap p here ∙ f) t) (λ d. rest (omega arith) k (omega arith) t) (cases-eq k n)
-
-pub none-count : (n : ℕ) (p : ℕ → Bool) → ((k : ℕ) → T (p k) → ⊥) → count n p ≡ 0
-unfolding count
-none-count zero p none = refl
-none-count (suc n) p none = step (p n) (none n) (none-count n p none)
-  where
-    step : (b : Bool) → (T b → ⊥) → count n p ≡ 0 → cond b 1 0 + count n p ≡ 0
-    step true f e = absurd (f tt)
-    step false f e = omega arith

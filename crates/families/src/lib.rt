@@ -2,8 +2,10 @@
 // It knows nothing of terms, and nothing of what a family means.
 mod family;
 mod filters;
+pub mod listing;
 pub mod mask;
 
 pub use family::Family;
 pub use family::Test;
+pub use listing::Listing;
 pub use mask::Mask;

@@ -4,7 +4,7 @@ ghost use mathlib.Core.Logic.{_↔_};
 ghost use Prim.Native.Nat.{ℕ, _<_};
 ghost use lib.Dec.{T};
 ghost use lib.ListN.{take};
-ghost use Rattle.domain.specs.Variables.{Listed, widest};
+ghost use Rattle.domain.specs.Variables.{Listed, Below as InRange, widest};
 ghost use Rattle.families.specs.Masks.{bit, cut as cut-down};
 use domain::WIDEST;
 
@@ -57,4 +57,17 @@ pub fn cut(g: Mask, xs: &[u8]) -> Mask
         }
     }
     places
+}
+
+// Whether each variable listed is below n.
+pub fn below(xs: &[u8], n: u8) -> bool
+    ensures yes { λ r. ⌜ (T r → InRange n (now (xs .entry))) ⌝ }
+    ensures only { λ r. ⌜ (InRange n (now (xs .entry)) → T r) ⌝ }
+{
+    for x in xs {
+        if *x >= n {
+            return false;
+        }
+    }
+    true
 }

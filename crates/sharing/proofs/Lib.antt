@@ -11,3 +11,4 @@ pub mod Joins
 pub mod Exactness
 pub mod Reading
 pub mod Laws
+pub mod Steps

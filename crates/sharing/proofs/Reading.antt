@@ -2,11 +2,12 @@
 -- Assumes nothing.
 use mathlib.Core.Path.{_≡_, sym, subst}
 use mathlib.Core.Bool.{Bool, _&&_}
-use Prim.Native.Nat.{ℕ, _^_, _<_, _≤_}
+use Prim.Native.Nat.{ℕ, _^_, _<_, _≤_, min}
 use native.Mathlib.Omega.{arith}
 use lib.Dec.{T, ltb, ltb→lt, lt→ltb}
 use lib.Pow.{pow-pos}
 use Rattle.domain.specs.Variables.{widest}
+use Rattle.families.specs.declared.family.Family.{Family}
 use Rattle.families.specs.Values.{Value, Fits}
 use Rattle.families.specs.Words.{holds}
 use Rattle.sharing.specs.declared.groups.Groups.{Groups}
@@ -66,3 +67,10 @@ read-off r a e fits full spelt = same-value (read r) a (read-fits r) fits e (λ 
 
     from : (g : ℕ) → T (a .has g) → T (read r .has g)
     from g t = read-from r g (subst (λ (n : ℕ). g < 2 ^ n) (sym e) (fits g t), lies 0 (full g t), lies g t)
+
+-- ---- a value that is stored
+
+pub stored : (n : ℕ) (f : Family) (a : Value) → n ≡ a .width → a .width ≤ widest → Fits a → Full a → ((h : ℕ) → h < 2 ^ a .width → holds f h ≡ a .has h) → read (record { width = n; map = f }) ≡ a
+stored n f a wide narrow fits full each =
+    let w : min n widest ≡ a .width = omega arith in
+    read-off (record { width = n; map = f }) a w fits full each

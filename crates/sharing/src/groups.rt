@@ -1,8 +1,9 @@
-// A value of sharing groups as it lies in a row.
+// A value of sharing groups as it lies in a row: 40 bytes at most. It has no invariant: whatever lies there, a lawful
+// value is read off it.
 use families::Family;
 
 #[derive(Clone, Copy)]
 pub struct Groups {
-    width: u8,
-    map: Family,
+    pub(crate) width: u8,
+    pub(crate) map: Family,
 }

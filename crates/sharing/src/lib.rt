@@ -1,5 +1,9 @@
-// The domain of sharing groups: which variables of a clause may share, as sets of variables.
+// The domain of sharing groups: which variables of a clause may share a variable, as a set of sets of them.
 // It knows no program and no book.
 mod groups;
+mod make;
+mod sharing;
+mod show;
 
 pub use groups::Groups;
+pub use sharing::SharingDomain;

@@ -4,8 +4,8 @@ use native.Mathlib.Omega.{arith}
 use lib.ListN.{length, getD}
 use Rattle.families.specs.Masks.{count}
 use Rattle.families.specs.Words.{word, lies, sets, holds}
-use Rattle.families.proofs.Values.{count-le}
-use Rattle.families.proofs.Words.{count-word, count-alike, holds-lies}
+use Rattle.families.proofs.Counts.{count-le, count-alike}
+use Rattle.families.proofs.Words.{count-word, holds-lies}
 use Rattle.families.proofs.family.Family.count.Needs as need
 
 pub loop-word-holds : need.loop-word-holds

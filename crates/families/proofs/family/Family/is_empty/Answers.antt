@@ -2,7 +2,8 @@ use mathlib.Core.Path.{_≡_, sym, subst, _∙_}
 use Prim.Native.Nat.{ℕ}
 use lib.Dec.{T, eqb, eqb→eq}
 use Rattle.families.specs.Words.{holds, sets}
-use Rattle.families.proofs.Words.{holds-low, count-none, none-count}
+use Rattle.families.proofs.Counts.{count-none, none-count}
+use Rattle.families.proofs.Words.{holds-low}
 use Rattle.families.proofs.family.Family.is_empty.Needs as need
 
 pub returns : need.returns

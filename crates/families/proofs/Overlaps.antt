@@ -1,0 +1,72 @@
+-- Sets that have a variable in common, where one of them is that of listed variables. Assumes nothing.
+use mathlib.Core.Path.{_≡_, refl, sym, subst}
+use mathlib.Core.Bool.{Bool, true, false, not, _&&_, _||_}
+use mathlib.Core.List.{List}
+use mathlib.Core.Logic.{_↔_, _⊎_, inl, inr, ⊎-elim}
+use Prim.Native.Nat.{ℕ, zero, suc, _/_, _%_, _^_, _<_, _≤_}
+use native.Mathlib.Omega.{arith}
+use lib.Arith.{bin-ind}
+use lib.Bits.{bitAnd, bitOr}
+use lib.Dec.{T, eqb, eqb→eq, T-not, not-T}
+use Rattle.std.proofs.shelf.Tests.{cases-eq, cases-lt, eq-eqb}
+use Rattle.domain.specs.Variables.{Listed, widest}
+use Rattle.families.specs.Masks.{bit, meets, overlaps}
+use Rattle.families.specs.Words.{sets}
+use Rattle.families.proofs.Tests.{and-split, and-pair, or-split, or-left, or-right, meets-some, some-meets}
+use Rattle.families.proofs.Masks.{bit-zero, bit-suc, zero-bits, below-bits, bit-and, bit-or}
+
+-- a set that is not empty has a variable
+some-bit : (g : ℕ) → (g ≡ 0 → ⊥) → (i : ℕ) × T (bit g i)
+some-bit =
+    bin-ind (λ (g : ℕ). (g ≡ 0 → ⊥) → (i : ℕ) × T (bit g i)) (λ n. absurd (n refl))
+    (λ g ih n.
+    ⊎-elim (λ odd. (0, subst T (sym (bit-zero g)) (subst (λ (k : ℕ). T (eqb k 1)) (sym odd) tt)))
+    (λ even.
+    let (i, t) = ih (λ e. n (omega arith)) in
+    (suc i, subst T (sym (bit-suc g i)) t))
+    (cases-eq (g % 2) 1))
+
+pub overlaps-bits : (g h : ℕ) → T (overlaps g h) ↔ ((i : ℕ) × T (bit g i) × T (bit h i))
+unfolding overlaps
+overlaps-bits g h = (
+  λ t.
+      let (i, b) = some-bit (bitAnd g h) (λ e. T-not (eqb (bitAnd g h) 0) t (subst (λ (k : ℕ). T (eqb k 0)) (sym e) tt)) in
+      let (l, r) = and-split (bit g i) (bit h i) (subst T (bit-and g h i) b) in
+      (i, l, r),
+  λ k.
+      let (i, l, r) = k in
+      not-T (eqb (bitAnd g h) 0)
+      (λ t.
+      zero-bits i
+      (subst (λ (m : ℕ). T (bit m i)) (eqb→eq (bitAnd g h) 0 t) (subst T (sym (bit-and g h i)) (and-pair (bit g i) (bit h i) l r)))),
+)
+
+pub overlaps-or : (g l r : ℕ) → T (overlaps g (bitOr l r)) ↔ (T (overlaps g l) ⊎ T (overlaps g r))
+overlaps-or g l r = (
+  λ t.
+      let (i, a, b) = overlaps-bits g (bitOr l r) .0 t in
+      ⊎-elim (λ c. inl (overlaps-bits g l .1 (i, a, c))) (λ c. inr (overlaps-bits g r .1 (i, a, c)))
+      (or-split (bit l i) (bit r i) (subst T (bit-or l r i) b)),
+  λ k.
+      ⊎-elim
+      (λ t. let (i, a, b) = overlaps-bits g l .0 t in overlaps-bits g (bitOr l r) .1 (i, a, subst T (sym (bit-or l r i)) (or-left (bit l i) (bit r i) b)))
+      (λ t. let (i, a, b) = overlaps-bits g r .0 t in overlaps-bits g (bitOr l r) .1 (i, a, subst T (sym (bit-or l r i)) (or-right (bit l i) (bit r i) b)))
+      k,
+)
+
+-- a variable of a set below the largest width
+variable-below : (g i : ℕ) → g < sets → T (bit g i) → i < widest
+variable-below g i low t = ⊎-elim (λ l. l) (λ high. absurd (below-bits widest g i low high t)) (cases-lt i widest)
+
+module _ (g : ℕ) (low : g < sets) where
+  pub overlaps-only : (x m : ℕ) → ((i : ℕ) → T (bit m i) ↔ ((i ≡ x) × (i < widest))) → T (overlaps g m) ↔ T (bit g x)
+  overlaps-only x m only = (
+    λ t. let (i, a, b) = overlaps-bits g m .0 t in subst (λ (j : ℕ). T (bit g j)) (only i .0 b .0) a,
+    λ t. overlaps-bits g m .1 (x, t, only x .1 (refl, variable-below g x low t)),
+  )
+
+  pub overlaps-listed : (ys : List ℕ) (m : ℕ) → ((i : ℕ) → T (bit m i) ↔ (Listed i ys × (i < widest))) → T (overlaps g m) ↔ T (meets ys g)
+  overlaps-listed ys m listed = (
+    λ t. let (i, a, b) = overlaps-bits g m .0 t in some-meets ys g i (listed i .0 b .0) a,
+    λ t. let (y, l, b) = meets-some ys g t in overlaps-bits g m .1 (y, b, listed y .1 (l, variable-below g y low b)),
+  )

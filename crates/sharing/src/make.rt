@@ -1,0 +1,2 @@
+// Values made from what a caller lists.
+use super::groups::Groups;
