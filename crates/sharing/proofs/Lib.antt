@@ -12,3 +12,4 @@ pub mod Exactness
 pub mod Reading
 pub mod Laws
 pub mod Steps
+pub mod Made

@@ -17,10 +17,10 @@ use Rattle.families.proofs.Values.{same-value}
 
 -- ---- a group that is read
 
-abbrev Read-so : Groups → ℕ → Type 0
+abbrev pub Read-so : Groups → ℕ → Type 0
 Read-so r g = (g < 2 ^ read-width r) × T (holds (r .map) 0) × T (holds (r .map) g)
 
-read-to : (r : Groups) (g : ℕ) → T (read r .has g) → Read-so r g
+pub read-to : (r : Groups) (g : ℕ) → T (read r .has g) → Read-so r g
 unfolding read-has
 read-to r g t =
     let low = ltb g (2 ^ read-width r) in
@@ -30,7 +30,7 @@ read-to r g t =
     let (t₂, t₃) = and-split empty here s in
     (ltb→lt g (2 ^ read-width r) t₁, t₂, t₃)
 
-read-from : (r : Groups) (g : ℕ) → Read-so r g → T (read r .has g)
+pub read-from : (r : Groups) (g : ℕ) → Read-so r g → T (read r .has g)
 unfolding read-has
 read-from r g (l, t₂, t₃) =
     let low = ltb g (2 ^ read-width r) in

@@ -1,9 +1,10 @@
 // The domain of sharing groups: which variables of a clause may share a variable, as a set of sets of them.
 // It knows no program and no book.
 mod groups;
-mod make;
+mod making;
 mod sharing;
 mod show;
 
 pub use groups::Groups;
 pub use sharing::SharingDomain;
+pub use show::GroupsDisplay;

@@ -155,7 +155,7 @@ pub impl Domain for Groups as SharingDomain {
 
 impl Groups {
     // The groups that are read off the words: none past the width, and none at all where the empty one is missing.
-    fn groups(&self) -> Family
+    pub(crate) fn groups(&self) -> Family
         ensures { λ r. ⌜ ((g : ℕ) → holds r g ≡ read (now (self .entry)) .has g) ⌝ }
     {
         if self.map.has(mask::EMPTY) {

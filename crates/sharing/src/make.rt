@@ -1,2 +1,0 @@
-// Values made from what a caller lists.
-use super::groups::Groups;
