@@ -1,5 +1,5 @@
 pub mod Variables
 pub mod Term
-pub mod Unify
+pub mod Outcomes
 pub mod Model
 pub mod Refusals

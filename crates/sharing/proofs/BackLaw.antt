@@ -8,7 +8,7 @@ use lib.Dec.{T, not-T}
 use lib.ListN.{length-map}
 use Rattle.domain.specs.Variables.{Listed}
 use Rattle.domain.specs.Term.{Term, Subst, Occurs, Inside, apply, term-at, pick}
-use Rattle.domain.specs.Unify.{Returns}
+use Rattle.domain.specs.Outcomes.{Returns}
 use Rattle.families.specs.Masks.{cut, meets}
 use Rattle.families.specs.Values.{Value}
 use Rattle.sharing.specs.Sharing.{Grouped, Describes, picks, union, backed, backed-has}

@@ -9,8 +9,8 @@ use lib.Dec.{T, not-T}
 use lib.ListN.{length-map}
 use Rattle.domain.specs.Variables.{Listed}
 use Rattle.domain.specs.Term.{Term, Subst, Occurs, Among, Inside, Above, apply, terms, term-at, pick}
-use Rattle.domain.specs.Unify.{Unifies, Side}
-use Rattle.domain.specs.Unify.Side.{one, built}
+use Rattle.domain.specs.Outcomes.{Unifies, Side}
+use Rattle.domain.specs.Outcomes.Side.{one, built}
 use Rattle.families.specs.Masks.{bit, meets}
 use Rattle.families.specs.Values.{Value}
 use Rattle.sharing.specs.Sharing.{Grouped, Describes, touches, picks, union, tied, tied-has}
