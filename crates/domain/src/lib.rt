@@ -10,7 +10,10 @@ ghost use Rattle.domain.specs.Model.{Model, Lawful};
 mod refusal;
 
 pub use refusal::Refusal;
+pub use refusal::RefusalDebug;
 pub use refusal::RefusalDisplay;
+pub use refusal::RefusalEq;
+pub use refusal::RefusalPartialEq;
 
 // The largest width of a value.
 pub const WIDEST: u8 = 8;

@@ -9,9 +9,9 @@ use super::mask;
 
 // No set at all, or those listed; their order counts for nothing, nor does it count how often something is listed.
 #[derive(Clone, Copy)]
-pub enum Listing<'a> {
+pub enum Listing<'s, 'v> {
     Never,
-    Sets(&'a [&'a [u8]]),
+    Sets(&'s [&'v [u8]]),
 }
 
 // Whether each variable of each set is below n.

@@ -8,3 +8,6 @@ mod show;
 pub use groups::Groups;
 pub use sharing::SharingDomain;
 pub use show::GroupsDisplay;
+
+#[cfg(test)]
+mod tests;
