@@ -52,6 +52,10 @@ count-same (suc n) p q f e k l t =
 
 -- ---- from the low end, and in parts
 
+pub count-zero : (p : ℕ → Bool) → count 0 p ≡ 0
+unfolding count
+count-zero p = refl
+
 pub count-alike : (n : ℕ) (p q : ℕ → Bool) → ((k : ℕ) → k < n → p k ≡ q k) → count n p ≡ count n q
 unfolding count
 count-alike zero p q same = refl

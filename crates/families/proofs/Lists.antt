@@ -38,6 +38,16 @@ listed-at [] k low = absurd (omega arith)
 listed-at (x ∷ xs) zero low = inl refl
 listed-at (x ∷ xs) (suc k) low = inr (listed-at xs k (omega arith))
 
+-- ---- every number listed, by its place
+
+pub below-each : (xs : List ℕ) (n : ℕ) → Below n xs → (k : ℕ) → k < length xs → getD xs k 0 < n
+below-each xs n below k low = below (getD xs k 0) (listed-at xs k low)
+
+pub each-below : (xs : List ℕ) (n : ℕ) → ((k : ℕ) → k < length xs → getD xs k 0 < n) → Below n xs
+each-below [] n each x l = elim l [ ]
+each-below (y ∷ xs) n each x (inl e) = let l = each 0 (omega arith) in omega arith
+each-below (y ∷ xs) n each x (inr l) = each-below xs n (λ k low. each (suc k) (omega arith)) x l
+
 -- ---- different numbers below n are no more than n
 
 decide-listed : (k : ℕ) (xs : List ℕ) → Listed k xs ⊎ (Listed k xs → ⊥)

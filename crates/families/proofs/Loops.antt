@@ -4,7 +4,6 @@ use mathlib.Core.Bool.{Bool, true, false, _&&_, _||_}
 use mathlib.Core.List.{List}
 use mathlib.Core.Logic.{_↔_, _⊎_, inl, inr, ⊎-elim}
 use Prim.Native.Nat.{ℕ, suc, _+_, _^_, _<_, _≤_}
-use native.Mathlib.Numerals.{add-one}
 use native.Mathlib.Omega.{arith}
 use lib.Bits.{bitOr}
 use lib.Dec.{T, eqb, eqb→eq, eqb-refl, ltb, ltb→lt, lt→ltb}
@@ -12,11 +11,9 @@ use lib.ListN.{length, getD, take}
 use lib.Seq.{getD-take}
 use Rattle.std.proofs.shelf.Lists.{length-take}
 use Rattle.std.proofs.shelf.Tests.{cases-eq, cases-lt}
-use Rattle.domain.specs.Variables.{Listed, widest}
-use Rattle.families.specs.Masks.{bit, cut, any}
+use Rattle.families.specs.Masks.{bit, cut}
 use Rattle.families.specs.Unions.{Selection, Inside, together}
 use Rattle.families.specs.Words.{sets}
-use Rattle.families.proofs.Lists.{listed-more}
 use Rattle.families.proofs.Tests.{and-split, and-pair, or-split, or-left, or-right, same-test}
 use Rattle.families.proofs.Masks.{same-bits, bit-or, bit-cut, bit-power, power-bit}
 use Rattle.families.proofs.Unions.{together-one, one-together, members, member-passes, passes-member}
@@ -64,32 +61,36 @@ module _ (keep before : ℕ → Bool) (n : ℕ) (so-far : (h : ℕ) → before h
 
 -- ---- the cuts of the sets below n
 
-module _ (has : ℕ → Bool) (f : ℕ → ℕ) (before : ℕ → Bool) (n : ℕ) (so-far : (h : ℕ) → before h ≡ any n (λ g. has g && eqb h (f g))) where
-  pub image-in : (after : ℕ → Bool) → f n < sets → T (has n) → ((h : ℕ) → after h ≡ (before h || (eqb h (f n) && ltb (f n) sets))) → (h : ℕ) → after h ≡ any (n + 1) (λ g. has g && eqb h (f g))
-  unfolding any
-  image-in after low here made h =
-      let test = λ (g : ℕ). has g && eqb h (f g) in
-      made h ∙ same-test (before h || (eqb h (f n) && ltb (f n) sets)) (test n || any n test)
-      (λ t.
-      ⊎-elim (λ b. or-right (test n) (any n test) (subst T (so-far h) b))
-      (λ e. or-left (test n) (any n test) (and-pair (has n) (eqb h (f n)) here (and-split (eqb h (f n)) (ltb (f n) sets) e .0)))
-      (or-split (before h) (eqb h (f n) && ltb (f n) sets) t))
-      (λ t.
-      ⊎-elim
-      (λ e.
-      or-right (before h) (eqb h (f n) && ltb (f n) sets)
-      (and-pair (eqb h (f n)) (ltb (f n) sets) (and-split (has n) (eqb h (f n)) e .1) (lt→ltb (f n) sets low)))
-      (λ b. or-left (before h) (eqb h (f n) && ltb (f n) sets) (subst T (sym (so-far h)) b))
-      (or-split (test n) (any n test) t))
-      ∙ ap (λ (k : ℕ). any k test) (sym (add-one n))
+-- h is the image of one of them
+abbrev pub Image : (ℕ → Bool) → (ℕ → ℕ) → ℕ → ℕ → Type 0
+Image has f n h = (g : ℕ) × (g < n) × T (has g) × (h ≡ f g)
 
-  pub image-out : (T (has n) → ⊥) → (h : ℕ) → before h ≡ any (n + 1) (λ g. has g && eqb h (f g))
-  unfolding any
-  image-out gone h =
-      let test = λ (g : ℕ). has g && eqb h (f g) in
-      so-far h ∙ same-test (any n test) (test n || any n test) (or-right (test n) (any n test))
-      (λ t. ⊎-elim (λ e. absurd (gone (and-split (has n) (eqb h (f n)) e .0))) (λ b. b) (or-split (test n) (any n test) t))
-      ∙ ap (λ (k : ℕ). any k test) (sym (add-one n))
+module _ (has : ℕ → Bool) (f : ℕ → ℕ) (before : ℕ → Bool) (n : ℕ) (so-far : (h : ℕ) → T (before h) ↔ Image has f n h) where
+  pub image-in : (after : ℕ → Bool) → f n < sets → T (has n) → ((h : ℕ) → after h ≡ (before h || (eqb h (f n) && ltb (f n) sets))) → (h : ℕ) → T (after h) ↔ Image has f (n + 1) h
+  image-in after low here made h =
+      let new : Bool = eqb h (f n) && ltb (f n) sets in (
+        λ t.
+            ⊎-elim (λ b. let (g, l, k, e) = so-far h .0 b in (g, omega arith, k, e))
+            (λ e. (n, omega arith, here, eqb→eq h (f n) (and-split (eqb h (f n)) (ltb (f n) sets) e .0)))
+            (or-split (before h) new (subst T (made h) t)),
+        λ k.
+            let (g, l, held, e) = k in
+            subst T (sym (made h))
+            (⊎-elim
+            (λ same.
+            let e′ : h ≡ f n = e ∙ ap f same in
+            or-right (before h) new
+            (and-pair (eqb h (f n)) (ltb (f n) sets) (subst (λ (j : ℕ). T (eqb h j)) e′ (eqb-refl h)) (lt→ltb (f n) sets low)))
+            (λ d. or-left (before h) new (so-far h .1 (g, omega arith, held, e))) (cases-eq g n)),
+      )
+
+  pub image-out : (T (has n) → ⊥) → (h : ℕ) → T (before h) ↔ Image has f (n + 1) h
+  image-out gone h = (
+    λ t. let (g, l, k, e) = so-far h .0 t in (g, omega arith, k, e),
+    λ k.
+        let (g, l, held, e) = k in
+        ⊎-elim (λ same. absurd (gone (subst (λ (j : ℕ). T (has j)) same held))) (λ d. so-far h .1 (g, omega arith, held, e)) (cases-eq g n),
+  )
 
 -- ---- the union of the sets below n that lie within h
 
@@ -184,20 +185,6 @@ module _ (P : ℕ → Type 0) (before : ℕ → Bool) (n : ℕ) (so-far : (h : �
     λ t. let k = so-far h .0 t in (k .0, let l = k .1 in omega arith),
     λ k. let l = k .1 in ⊎-elim (λ e. absurd (gone (subst P e (k .0)))) (λ d. so-far h .1 (k .0, omega arith)) (cases-eq h n),
   )
-
--- ---- the variables listed so far
-
-pub listed-in : (xs : List ℕ) (k all one : ℕ) → k < length xs → ((i : ℕ) → T (bit all i) ↔ (Listed i (take k xs) × (i < widest))) → ((i : ℕ) → T (bit one i) ↔ ((i ≡ getD xs k 0) × (i < widest))) → (i : ℕ) → T (bit (bitOr all one) i) ↔ (Listed i (take (k + 1) xs) × (i < widest))
-listed-in xs k all one low so-far here i =
-    let more = listed-more i k xs low in (
-      λ t.
-          ⊎-elim (λ a. let h = so-far i .0 a in (more .1 (inl (h .0)), h .1)) (λ b. let h = here i .0 b in (more .1 (inr (h .0)), h .1))
-          (or-split (bit all i) (bit one i) (subst T (bit-or all one i) t)),
-      λ h.
-          subst T (sym (bit-or all one i))
-          (⊎-elim (λ l. or-left (bit all i) (bit one i) (so-far i .1 (l, h .1))) (λ e. or-right (bit all i) (bit one i) (here i .1 (e, h .1)))
-          (more .0 (h .0))),
-    )
 
 -- ---- the cut at the places so far
 

@@ -1,30 +1,29 @@
--- The bits of a mask: a mask is given by its bits; those of packed bits, of a cut, of a power of two, of a union and of
--- an intersection. Assumes nothing.
+-- The bits of a mask: a mask is given by its bits; those of packed bits, of a cut, of a power of two, of a union, of
+-- an intersection and of listed variables. Assumes nothing.
 use mathlib.Core.Path.{_≡_, refl, sym, ap, subst, _∙_}
 use mathlib.Core.Bool.{Bool, true, false, cond, _&&_, _||_}
 use mathlib.Core.List.{List, [], _∷_, map}
-use mathlib.Core.Logic.{_↔_, ⊎-elim}
+use mathlib.Core.Logic.{_↔_, _⊎_, inl, inr, ⊎-elim}
 use Prim.Native.Nat.{ℕ, zero, suc, _+_, _*_, _/_, _%_, _^_, _<_, _≤_}
 use native.Mathlib.Nat.{pow-suc, div-one}
 use native.Mathlib.Numerals.{one-add}
 use native.Mathlib.Omega.{arith}
 use lib.Arith.{bin-ind}
 use lib.Bits.{bitAnd, bitOr, and-shr, and-step, or-shr, or-step}
-use lib.Dec.{T, eqb, eqb→eq}
+use lib.Dec.{T, eqb, eqb→eq, ltb}
 use lib.ListN.{length, getD}
 use Rattle.std.proofs.shelf.Bits.{shr-shr}
-use Rattle.std.proofs.shelf.Tests.{cases-eq}
-use Rattle.families.specs.Masks.{bit, pack, cut, meets}
+use Rattle.std.proofs.shelf.Tests.{cases-eq, ltb-true, ltb-false}
+use Rattle.domain.specs.Variables.{Listed, widest}
+use Rattle.families.specs.Masks.{bit, pack, cut, meets, alone, coded}
 use Rattle.families.proofs.Tests.{and-split, and-pair, or-split, or-left, or-right, same-test, meets-some}
 
 -- ---- bit by bit, the lowest first
 
 pub bit-zero : (g : ℕ) → bit g 0 ≡ eqb (g % 2) 1
-unfolding bit
 bit-zero g = ap (λ (n : ℕ). eqb (n % 2) 1) (div-one g)
 
 pub bit-suc : (g i : ℕ) → bit g (suc i) ≡ bit (g / 2) i
-unfolding bit
 bit-suc g i =
     ap (λ (n : ℕ). eqb (n % 2) 1)
     (ap (λ (k : ℕ). g / 2 ^ k) (sym (one-add i)) ∙ sym (shr-shr g 1 i))
@@ -90,7 +89,6 @@ packed-high m true = omega arith
 packed-high m false = omega arith
 
 pub bit-pack : (bs : List Bool) (i : ℕ) → bit (pack bs) i ≡ getD bs i false
-unfolding pack
 bit-pack [] i = same-test (bit 0 i) false (zero-bits i) (λ t. absurd t)
 bit-pack (b ∷ bs) zero = packed-low (pack bs) b
 bit-pack (b ∷ bs) (suc i) =
@@ -113,7 +111,6 @@ power-bit (suc k) (suc i) t =
 -- ---- a cut
 
 pub bit-cut : (xs : List ℕ) (g i : ℕ) → T (bit (cut xs g) i) ↔ ((i < length xs) × T (bit g (getD xs i 0)))
-unfolding cut
 bit-cut xs g i =
     let e : bit (pack (map (bit g) xs)) i ≡ getD (map (bit g) xs) i false = bit-pack (map (bit g) xs) i in
     (λ t. to xs i (rw e at t), λ h. rw e (from xs i (h .0) (h .1)))
@@ -156,8 +153,13 @@ odd-or m n =
     rw e tt)
 
 pub bit-or : (g h i : ℕ) → bit (bitOr g h) i ≡ (bit g i || bit h i)
-unfolding bit
 bit-or g h i = ap odd (or-shr g h i) ∙ odd-or (g / 2 ^ i) (h / 2 ^ i)
+
+pub of-or : (g h i : ℕ) → T (bit (bitOr g h) i) → T (bit g i) ⊎ T (bit h i)
+of-or g h i t = or-split (bit g i) (bit h i) (subst T (bit-or g h i) t)
+
+pub in-or : (g h i : ℕ) → T (bit g i) ⊎ T (bit h i) → T (bit (bitOr g h) i)
+in-or g h i k = subst T (sym (bit-or g h i)) (⊎-elim (or-left (bit g i) (bit h i)) (or-right (bit g i) (bit h i)) k)
 
 odd-and : (m n : ℕ) → odd (bitAnd m n) ≡ (odd m && odd n)
 odd-and m n =
@@ -176,5 +178,40 @@ odd-and m n =
     rw e tt)
 
 pub bit-and : (g h i : ℕ) → bit (bitAnd g h) i ≡ (bit g i && bit h i)
-unfolding bit
 bit-and g h i = ap odd (and-shr g h i) ∙ odd-and (g / 2 ^ i) (h / 2 ^ i)
+
+pub or-assoc : (g h k : ℕ) → bitOr (bitOr g h) k ≡ bitOr g (bitOr h k)
+or-assoc g h k = same-bits (bitOr (bitOr g h) k) (bitOr g (bitOr h k)) to from
+  where
+    to : (i : ℕ) → T (bit (bitOr (bitOr g h) k) i) → T (bit (bitOr g (bitOr h k)) i)
+    to i t =
+        in-or g (bitOr h k) i
+        (⊎-elim (λ l. ⊎-elim inl (λ r. inr (in-or h k i (inl r))) (of-or g h i l)) (λ r. inr (in-or h k i (inr r))) (of-or (bitOr g h) k i t))
+
+    from : (i : ℕ) → T (bit (bitOr g (bitOr h k)) i) → T (bit (bitOr (bitOr g h) k) i)
+    from i t =
+        in-or (bitOr g h) k i
+        (⊎-elim (λ l. inl (in-or g h i (inl l))) (λ r. ⊎-elim (λ l. inl (in-or g h i (inr l))) inr (of-or h k i r)) (of-or g (bitOr h k) i t))
+
+-- ---- listed variables
+
+pub alone-bits : (x i : ℕ) → T (bit (alone x) i) ↔ ((i ≡ x) × (i < widest))
+alone-bits x i = step (ltb x widest) refl
+  where
+    step : (b : Bool) → ltb x widest ≡ b → T (bit (cond b (2 ^ x) 0) i) ↔ ((i ≡ x) × (i < widest))
+    step true e = (
+      λ t. let same = power-bit x i t in let l = ltb-true x widest e in (same, omega arith),
+      λ k. subst (λ (j : ℕ). T (bit (2 ^ x) j)) (sym (k .0)) (bit-power x),
+    )
+    step false e = (λ t. absurd (zero-bits i t), λ k. let same = k .0 in let l = k .1 in let m = ltb-false x widest e in absurd (omega arith))
+
+pub coded-bits : (xs : List ℕ) (i : ℕ) → T (bit (coded xs) i) ↔ (Listed i xs × (i < widest))
+coded-bits [] i = (λ t. absurd (zero-bits i t), λ k. absurd (k .0))
+coded-bits (x ∷ xs) i =
+    let here = alone-bits x i in
+    let rest = coded-bits xs i in (
+      λ t.
+          ⊎-elim (λ l. let k = here .0 l in (inl (k .0), k .1)) (λ r. let k = rest .0 r in (inr (k .0), k .1))
+          (of-or (alone x) (coded xs) i t),
+      λ k. in-or (alone x) (coded xs) i (⊎-elim (λ e. inl (here .1 (e, k .1))) (λ l. inr (rest .1 (l, k .1))) (k .0)),
+    )

@@ -9,11 +9,11 @@ use lib.Arith.{bin-ind}
 use lib.Bits.{bitAnd, bitOr}
 use lib.Dec.{T, eqb, eqb→eq, T-not, not-T}
 use Rattle.std.proofs.shelf.Tests.{cases-eq, cases-lt, eq-eqb}
-use Rattle.domain.specs.Variables.{Listed, widest}
-use Rattle.families.specs.Masks.{bit, meets, overlaps}
+use Rattle.domain.specs.Variables.{widest}
+use Rattle.families.specs.Masks.{bit, meets, overlaps, alone, coded}
 use Rattle.families.specs.Words.{sets}
 use Rattle.families.proofs.Tests.{and-split, and-pair, or-split, or-left, or-right, meets-some, some-meets}
-use Rattle.families.proofs.Masks.{bit-zero, bit-suc, zero-bits, below-bits, bit-and, bit-or}
+use Rattle.families.proofs.Masks.{bit-zero, bit-suc, zero-bits, below-bits, bit-and, bit-or, alone-bits, coded-bits}
 
 -- a set that is not empty has a variable
 some-bit : (g : ℕ) → (g ≡ 0 → ⊥) → (i : ℕ) × T (bit g i)
@@ -27,7 +27,6 @@ some-bit =
     (cases-eq (g % 2) 1))
 
 pub overlaps-bits : (g h : ℕ) → T (overlaps g h) ↔ ((i : ℕ) × T (bit g i) × T (bit h i))
-unfolding overlaps
 overlaps-bits g h = (
   λ t.
       let (i, b) = some-bit (bitAnd g h) (λ e. T-not (eqb (bitAnd g h) 0) t (subst (λ (k : ℕ). T (eqb k 0)) (sym e) tt)) in
@@ -59,14 +58,14 @@ variable-below : (g i : ℕ) → g < sets → T (bit g i) → i < widest
 variable-below g i low t = ⊎-elim (λ l. l) (λ high. absurd (below-bits widest g i low high t)) (cases-lt i widest)
 
 module _ (g : ℕ) (low : g < sets) where
-  pub overlaps-only : (x m : ℕ) → ((i : ℕ) → T (bit m i) ↔ ((i ≡ x) × (i < widest))) → T (overlaps g m) ↔ T (bit g x)
-  overlaps-only x m only = (
-    λ t. let (i, a, b) = overlaps-bits g m .0 t in subst (λ (j : ℕ). T (bit g j)) (only i .0 b .0) a,
-    λ t. overlaps-bits g m .1 (x, t, only x .1 (refl, variable-below g x low t)),
+  pub overlaps-alone : (x : ℕ) → T (overlaps g (alone x)) ↔ T (bit g x)
+  overlaps-alone x = (
+    λ t. let (i, a, b) = overlaps-bits g (alone x) .0 t in subst (λ (j : ℕ). T (bit g j)) (alone-bits x i .0 b .0) a,
+    λ t. overlaps-bits g (alone x) .1 (x, t, alone-bits x x .1 (refl, variable-below g x low t)),
   )
 
-  pub overlaps-listed : (ys : List ℕ) (m : ℕ) → ((i : ℕ) → T (bit m i) ↔ (Listed i ys × (i < widest))) → T (overlaps g m) ↔ T (meets ys g)
-  overlaps-listed ys m listed = (
-    λ t. let (i, a, b) = overlaps-bits g m .0 t in some-meets ys g i (listed i .0 b .0) a,
-    λ t. let (y, l, b) = meets-some ys g t in overlaps-bits g m .1 (y, b, listed y .1 (l, variable-below g y low b)),
+  pub overlaps-coded : (ys : List ℕ) → T (overlaps g (coded ys)) ↔ T (meets ys g)
+  overlaps-coded ys = (
+    λ t. let (i, a, b) = overlaps-bits g (coded ys) .0 t in some-meets ys g i (coded-bits ys i .0 b .0) a,
+    λ t. let (y, l, b) = meets-some ys g t in overlaps-bits g (coded ys) .1 (y, b, coded-bits ys y .1 (l, variable-below g y low b)),
   )

@@ -110,7 +110,6 @@ any-few m n p q small same few =
 -- ---- the tests of a set
 
 pub meets-some : (ys : List ℕ) (g : ℕ) → T (meets ys g) → (y : ℕ) × Listed y ys × T (bit g y)
-unfolding meets
 meets-some [] g t = elim t [ ]
 meets-some (y ∷ ys) g t =
     ⊎-elim (λ here. (y, inl refl, here))
@@ -118,7 +117,6 @@ meets-some (y ∷ ys) g t =
     (or-split (bit g y) (meets ys g) t)
 
 pub some-meets : (ys : List ℕ) (g y : ℕ) → Listed y ys → T (bit g y) → T (meets ys g)
-unfolding meets
 some-meets [] g y l h = elim l [ ]
 some-meets (z ∷ ys) g y (inl e) h = or-left (bit g z) (meets ys g) (subst (λ (j : ℕ). T (bit g j)) e h)
 some-meets (z ∷ ys) g y (inr l) h = or-right (bit g z) (meets ys g) (some-meets ys g y l h)

@@ -83,3 +83,6 @@ passes-member (suc n) t g l h = go (t n) refl (passes-member n t g)
 -- the same sets with another property
 pub selection-map : {P Q : ℕ → Type 0} (h : ℕ) → ((g : ℕ) → P g → Q g) → Selection P h → Selection Q h
 selection-map h f s = record { sets = s .sets; each = λ g l. f g (s .each g l); whole = s .whole }
+
+pub selection-below : {P : ℕ → Type 0} (n h : ℕ) → ((g : ℕ) → P g → g < 2 ^ n) → Selection P h → h < 2 ^ n
+selection-below n h low s = subst (λ (k : ℕ). k < 2 ^ n) (s .whole) (together-below (s .sets) n (λ g l. low g (s .each g l)))

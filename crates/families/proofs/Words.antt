@@ -18,7 +18,7 @@ use Rattle.std.proofs.shelf.Tests.{cases-eq, cases-lt, eq-eqb, ne-eqb}
 use Rattle.families.specs.Masks.{bit, count}
 use Rattle.families.specs.declared.family.Family.{Family}
 use Rattle.families.specs.Words.{word, sets, lies, holds}
-use Rattle.families.proofs.Counts.{count-alike, count-more, ones-count}
+use Rattle.families.proofs.Counts.{count-zero, count-alike, count-more, ones-count}
 use Rattle.families.proofs.Tests.{and-split, and-pair, or-split, or-left, or-right, or-false, same-test}
 use Rattle.families.proofs.Masks.{bit-zero, bit-suc, zero-bits, same-bits, below-bits, bit-or, bit-power, power-bit}
 
@@ -32,7 +32,6 @@ high-bit n g i below high = same-test (bit g i) false (below-bits n g i below hi
 
 -- the test of a bit by a shift and a mask
 pub shifted-bit : (w i : ℕ) → eqb (bitAnd (w / 2 ^ i) 1) 1 ≡ bit w i
-unfolding bit
 shifted-bit w i = ap (λ (n : ℕ). eqb n 1) (and-mask (w / 2 ^ i) 1)
 
 pub power-test : (j i : ℕ) → bit (2 ^ j) i ≡ eqb i j
@@ -43,12 +42,10 @@ power-test j i =
 -- ---- in words
 
 pub lies-none : (ws : List ℕ) → ((k : ℕ) → getD ws k 0 ≡ 0) → (g : ℕ) → lies ws g ≡ false
-unfolding lies
 lies-none ws zeros g = ap (λ (w : ℕ). bit w (g % word)) (zeros (g / word)) ∙ no-bit (g % word)
 
 -- at bit i of word k
 pub lies-at : (ws : List ℕ) (k i : ℕ) → i < word → lies ws (word * k + i) ≡ bit (getD ws k 0) i
-unfolding lies
 lies-at ws k i low =
     let e : (word * k + i) / word ≡ k = omega arith in
     let f : (word * k + i) % word ≡ i = omega arith in
@@ -57,11 +54,9 @@ lies-at ws k i low =
 -- ---- a family, by its words
 
 pub holds-low : (f : Family) (g : ℕ) → T (holds f g) → g < sets
-unfolding holds
 holds-low f g t = ltb→lt g sets (and-split (ltb g sets) (lies (f .words) g) t .0)
 
 pub holds-lies : (f : Family) (g : ℕ) → g < sets → holds f g ≡ lies (f .words) g
-unfolding holds
 holds-lies f g low =
     same-test (ltb g sets && lies (f .words) g) (lies (f .words) g) (λ t. and-split (ltb g sets) (lies (f .words) g) t .1)
     (and-pair (ltb g sets) (lies (f .words) g) (lt→ltb g sets low))
@@ -81,7 +76,6 @@ module _ (ws : List ℕ) (g : ℕ) (there : g / word < length ws) where
   put = set ws (g / word) (bitOr (getD ws (g / word) 0) (1 * 2 ^ (g % word) % 2 ^ word))
 
   same-word : (h : ℕ) → h / word ≡ g / word → lies put h ≡ (lies ws h || eqb h g)
-  unfolding lies
   same-word h e =
       let w = getD ws (g / word) 0 in
       let low : g % word < word = omega arith in
@@ -96,7 +90,6 @@ module _ (ws : List ℕ) (g : ℕ) (there : g / word < length ws) where
       ∙ ap₂ (λ (b c : Bool). b || c) (ap (λ (k : ℕ). bit (getD ws k 0) (h % word)) (sym e)) (power-test (g % word) (h % word) ∙ same)
 
   other-word : (h : ℕ) → (h / word ≡ g / word → ⊥) → lies put h ≡ (lies ws h || eqb h g)
-  unfolding lies
   other-word h n =
       let apart : eqb h g ≡ false = ne-eqb h g (λ e. n (ap (λ (k : ℕ). k / word) e)) in
       let kept = getD-set-other ws (g / word) (h / word) (bitOr (getD ws (g / word) 0) (1 * 2 ^ (g % word) % 2 ^ word)) 0 n in
@@ -108,7 +101,6 @@ module _ (ws : List ℕ) (g : ℕ) (there : g / word < length ws) where
 -- ---- union and inclusion, word by word
 
 pub lies-or : (us vs ws : List ℕ) (g : ℕ) → getD ws (g / word) 0 ≡ bitOr (getD us (g / word) 0) (getD vs (g / word) 0) → lies ws g ≡ (lies us g || lies vs g)
-unfolding lies
 lies-or us vs ws g here =
     ap (λ (w : ℕ). bit w (g % word)) here ∙ bit-or (getD us (g / word) 0) (getD vs (g / word) 0) (g % word)
 
@@ -136,6 +128,19 @@ within-or us vs k fits each = same-bits (bitOr a b) b to from
     from i t = subst T (sym (bit-or a b i)) (or-right (bit a i) (bit b i) t)
 
 -- ---- counting, word by word
+
+-- what lies in the first k words, counted
+abbrev pub count-words : ℕ → List ℕ → ℕ
+count-words zero ws = 0
+count-words (suc k) ws = count-words k ws + count word (λ i. lies ws (word * k + i))
+
+pub count-words-is : (k : ℕ) (ws : List ℕ) → count-words k ws ≡ count (word * k) (lies ws)
+count-words-is zero ws = sym (count-zero (lies ws))
+count-words-is (suc k) ws =
+    let e : word * suc k ≡ word * k + word = omega arith in
+    let last : ℕ = count word (λ i. lies ws (word * k + i)) in
+    ap (λ (m : ℕ). m + last) (count-words-is k ws) ∙ sym (count-more (word * k) word (lies ws))
+    ∙ ap (λ (n : ℕ). count n (lies ws)) (sym e)
 
 pub count-word : (ws : List ℕ) (k : ℕ) → getD ws k 0 < 2 ^ word → count (word * (k + 1)) (lies ws) ≡ count (word * k) (lies ws) + ones (getD ws k 0)
 count-word ws k fits =

@@ -3,29 +3,39 @@
 use mathlib.Core.Bool.{Bool, true, false, not, _&&_, _||_, cond}
 use mathlib.Core.List.{List, [], _∷_, map}
 use Prim.Native.Nat.{ℕ, zero, suc, _+_, _*_, _/_, _%_, _^_}
-use lib.Bits.{bitAnd}
-use lib.Dec.{eqb}
+use lib.Bits.{bitAnd, bitOr}
+use lib.Dec.{eqb, ltb}
+use Rattle.domain.specs.Variables.{widest}
 
 -- variable i is in g
-unfoldable pub bit : ℕ → ℕ → Bool
+abbrev pub bit : ℕ → ℕ → Bool
 bit g i = eqb (g / 2 ^ i % 2) 1
 
 -- the mask with these bits, the lowest first
-unfoldable pub pack : List Bool → ℕ
+abbrev pub pack : List Bool → ℕ
 pack [] = 0
 pack (b ∷ bs) = 2 * pack bs + cond b 1 0
 
 -- g at the variables listed, numbered by position
-unfoldable pub cut : List ℕ → ℕ → ℕ
+abbrev pub cut : List ℕ → ℕ → ℕ
 cut xs g = pack (map (bit g) xs)
 
+-- the variable x alone; nothing where it is not below the largest width
+abbrev pub alone : ℕ → ℕ
+alone x = cond (ltb x widest) (2 ^ x) 0
+
+-- the variables listed, as far as they are below the largest width
+abbrev pub coded : List ℕ → ℕ
+coded [] = 0
+coded (x ∷ xs) = bitOr (alone x) (coded xs)
+
 -- some variable listed is in g
-unfoldable pub meets : List ℕ → ℕ → Bool
+abbrev pub meets : List ℕ → ℕ → Bool
 meets [] g = false
 meets (y ∷ ys) g = bit g y || meets ys g
 
 -- some variable is in both
-unfoldable pub overlaps : ℕ → ℕ → Bool
+abbrev pub overlaps : ℕ → ℕ → Bool
 overlaps g h = not (eqb (bitAnd g h) 0)
 
 -- some number below n passes

@@ -6,7 +6,7 @@ ghost use Prim.Native.Nat.{ℕ, _<_};
 ghost use lib.Dec.{T, eqb, ltb};
 ghost use lib.ListN.{take};
 ghost use Rattle.domain.specs.Variables.{widest};
-ghost use Rattle.families.specs.Masks.{bit, any, count as counted, cut as cut-down};
+ghost use Rattle.families.specs.Masks.{bit, count as counted, cut as cut-down};
 ghost use Rattle.families.specs.Unions.{Selection, Inside};
 ghost use Rattle.families.specs.Words.{holds, sets};
 use super::mask;
@@ -41,14 +41,15 @@ impl Family {
     pub fn has(&self, g: Mask) -> bool
         ensures { λ r. ⌜ r ≡ holds (now (self .entry)) g ⌝ }
     {
-        g < SETS && (self.words[g / 64] >> (g % 64)) & 1 == 1
+        g < SETS && (self.words[g / 64] >> (g % 64)) % 2 == 1
     }
 
     // A set past the largest width is left out.
     pub fn insert(&mut self, g: Mask)
         ensures { λ _. ⌜ ((h : ℕ) → holds (now (self .exit)) h ≡ (holds (now (self .entry)) h || (eqb h g && ltb g sets))) ⌝ }
     {
-        if g < SETS {
+        let room = 64 * WORDS;
+        if g < room {
             self.words[g / 64] |= 1 << (g % 64);
         }
     }
@@ -91,7 +92,7 @@ impl Family {
         ensures yes { λ r. ⌜ (T r → (g : ℕ) → T (holds (now (self .entry)) g) → ⊥) ⌝ }
         ensures only { λ r. ⌜ (((g : ℕ) → T (holds (now (self .entry)) g) → ⊥) → T r) ⌝ }
     {
-        self.count() == 0
+        self.within(&Family::new())
     }
 
     // The sets that pass the test.
@@ -109,7 +110,7 @@ impl Family {
 
     // Each set cut down to the first variables listed.
     pub fn view(&self, xs: &[u8]) -> Family
-        ensures { λ r. ⌜ ((h : ℕ) → holds r h ≡ any sets (λ g. holds (now (self .entry)) g && eqb h (cut-down (take widest (now (xs .entry))) g))) ⌝ }
+        ensures { λ r. ⌜ ((h : ℕ) → T (holds r h) ↔ ((g : ℕ) × T (holds (now (self .entry)) g) × (h ≡ cut-down (take widest (now (xs .entry))) g))) ⌝ }
     {
         let mut cuts = Family::new();
         for g in 0..SETS {

@@ -2,7 +2,7 @@
 // It knows nothing of terms, and nothing of what a family means.
 mod family;
 mod filters;
-pub mod listing;
+mod listing;
 pub mod mask;
 
 pub use family::Family;

@@ -1,11 +1,10 @@
 // A set of variables as a mask: variable i is in it where bit i is 1.
 ghost use mathlib.Core.Path.{_≡_};
-ghost use mathlib.Core.Logic.{_↔_};
 ghost use Prim.Native.Nat.{ℕ, _<_};
 ghost use lib.Dec.{T};
-ghost use lib.ListN.{take};
-ghost use Rattle.domain.specs.Variables.{Listed, Below as InRange, widest};
-ghost use Rattle.families.specs.Masks.{bit, cut as cut-down};
+ghost use lib.ListN.{length, getD, take};
+ghost use Rattle.domain.specs.Variables.{widest};
+ghost use Rattle.families.specs.Masks.{bit, alone, coded, cut as cut-down};
 use domain::WIDEST;
 
 pub type Mask = usize;
@@ -17,19 +16,19 @@ pub const EMPTY: Mask = 0;
 pub fn contains(g: Mask, x: u8) -> bool
     ensures { λ r. ⌜ r ≡ bit g x ⌝ }
 {
-    x < 64 && (g >> x) & 1 == 1
+    x < 64 && (g >> x) % 2 == 1
 }
 
 // The variable x alone; nothing where x is not below the largest width.
 pub fn only(x: u8) -> Mask
-    ensures { λ r. ⌜ ((i : ℕ) → T (bit r i) ↔ ((i ≡ x) × (i < widest))) ⌝ }
+    ensures { λ r. ⌜ r ≡ alone x ⌝ }
 {
     if x < WIDEST { 1 << x } else { EMPTY }
 }
 
 // The variables listed, as far as they are below the largest width.
 pub fn of(xs: &[u8]) -> Mask
-    ensures { λ r. ⌜ ((i : ℕ) → T (bit r i) ↔ (Listed i (now (xs .entry)) × (i < widest))) ⌝ }
+    ensures { λ r. ⌜ r ≡ coded (now (xs .entry)) ⌝ }
 {
     let mut all = EMPTY;
     for x in xs {
@@ -47,7 +46,7 @@ pub fn first(xs: &[u8]) -> &[u8]
 }
 
 // The set cut down to the first variables listed, and numbered by position.
-pub fn cut(g: Mask, xs: &[u8]) -> Mask
+pub(crate) fn cut(g: Mask, xs: &[u8]) -> Mask
     ensures { λ r. ⌜ r ≡ cut-down (take widest (now (xs .entry))) g ⌝ }
 {
     let mut places = EMPTY;
@@ -60,9 +59,9 @@ pub fn cut(g: Mask, xs: &[u8]) -> Mask
 }
 
 // Whether each variable listed is below n.
-pub fn below(xs: &[u8], n: u8) -> bool
-    ensures yes { λ r. ⌜ (T r → InRange n (now (xs .entry))) ⌝ }
-    ensures only { λ r. ⌜ (InRange n (now (xs .entry)) → T r) ⌝ }
+pub(crate) fn below(xs: &[u8], n: u8) -> bool
+    ensures yes { λ r. ⌜ (T r → (k : ℕ) → k < length (now (xs .entry)) → getD (now (xs .entry)) k 0 < n) ⌝ }
+    ensures only { λ r. ⌜ (((k : ℕ) → k < length (now (xs .entry)) → getD (now (xs .entry)) k 0 < n) → T r) ⌝ }
 {
     for x in xs {
         if *x >= n {

@@ -2,6 +2,7 @@
 // It knows no program and no book.
 mod groups;
 mod making;
+mod parts;
 mod sharing;
 mod show;
 

@@ -1,20 +1,16 @@
 // The functions of the domain. They take every argument: what lies past the largest width is left out, as each says.
 ghost use mathlib.Core.Path.{_≡_};
-ghost use Prim.Native.Nat.{ℕ, _^_, _≤_, min, max};
-ghost use mathlib.Core.Bool.{_&&_, _||_};
-ghost use lib.Dec.{T, eqb, leb};
+ghost use Prim.Native.Nat.{min, max};
+ghost use lib.Dec.{T};
 ghost use lib.ListN.{take};
 ghost use Rattle.domain.specs.Variables.{widest};
-ghost use Rattle.families.specs.Values.{Under, never as none, joined, viewed, rank as held};
-ghost use Rattle.families.specs.Masks.{any};
-ghost use Rattle.families.specs.Words.{holds};
+ghost use Rattle.families.specs.Values.{Under, never as none, joined, viewed, rank as size};
 ghost use Rattle.sharing.specs.Sharing.{sharing as the-model, read, read-width, tied, entered, backed, Ground, Apart};
 ghost use Rattle.sharing.specs.Rules.{Tie-rule, View-rule, Enter-rule, Back-rule, Always-ground, Always-apart};
 use super::groups::Groups;
+use super::parts;
 use domain::Domain;
 use domain::WIDEST;
-use families::Family;
-use families::mask;
 
 pub impl Domain for Groups as SharingDomain {
     ghost model = { the-model };
@@ -29,11 +25,7 @@ pub impl Domain for Groups as SharingDomain {
     fn never(n: u8) -> Groups
         ensures { λ r. ⌜ read r ≡ none (min n widest) ⌝ }
     {
-        let width = n.min(WIDEST);
-        Groups {
-            width,
-            map: Family::new(),
-        }
+        parts::empty(n.min(WIDEST))
     }
 
     fn below(&self, other: &Groups) -> bool
@@ -48,13 +40,10 @@ pub impl Domain for Groups as SharingDomain {
         ensures same { λ r. ⌜ (read-width (now (self .entry)) ≡ read-width (now (other .entry)) → read r ≡ joined (read (now (self .entry))) (read (now (other .entry)))) ⌝ }
         ensures differ { λ r. ⌜ ((read-width (now (self .entry)) ≡ read-width (now (other .entry)) → ⊥) → r ≡ now (self .entry)) ⌝ }
     {
-        if self.width() != other.width() {
-            return *self;
-        }
-        let map = self.groups().union(&other.groups());
-        Groups {
-            width: self.width(),
-            map,
+        if self.width() == other.width() {
+            self.united(other)
+        } else {
+            *self
         }
     }
 
@@ -63,17 +52,9 @@ pub impl Domain for Groups as SharingDomain {
         ensures reads { λ r. ⌜ read r ≡ tied (read (now (self .entry))) x (now (ys .entry)) ⌝ }
         ensures rule { λ r. ⌜ Tie-rule (read (now (self .entry))) x (now (ys .entry)) (read r) ⌝ }
     {
-        let groups = self.groups();
-        let left = mask::only(x);
-        let right = mask::of(ys);
-        let touched = left | right;
-        let unions = groups.meeting(touched).unions();
-        let tied = unions.meeting(left).meeting(right);
-        let map = groups.missing(touched).union(&tied);
-        Groups {
-            width: self.width(),
-            map,
-        }
+        let kept = self.untouched(x, ys);
+        let joined = self.joined(x, ys);
+        self.tied(x, ys, &kept, &joined)
     }
 
     // Of more variables than the largest width, the first count.
@@ -81,9 +62,7 @@ pub impl Domain for Groups as SharingDomain {
         ensures reads { λ r. ⌜ read r ≡ viewed (read (now (self .entry))) (take widest (now (xs .entry))) ⌝ }
         ensures rule { λ r. ⌜ View-rule (read (now (self .entry))) (take widest (now (xs .entry))) (read r) ⌝ }
     {
-        let width = mask::first(xs).len() as u8;
-        let map = self.groups().view(xs);
-        Groups { width, map }
+        self.viewed(&self.groups(), xs)
     }
 
     // A width below the value's own leaves it as it is, and one past the largest gives the largest.
@@ -91,14 +70,7 @@ pub impl Domain for Groups as SharingDomain {
         ensures reads { λ r. ⌜ read r ≡ entered (read (now (self .entry))) (max (read-width (now (self .entry))) (min v widest)) ⌝ }
         ensures rule { λ r. ⌜ Enter-rule (read (now (self .entry))) (max (read-width (now (self .entry))) (min v widest)) (read r) ⌝ }
     {
-        let width = self.width().max(v.min(WIDEST));
-        let groups = self.groups();
-        let map = if groups.has(mask::EMPTY) {
-            with_each(groups, self.width(), width)
-        } else {
-            groups
-        };
-        Groups { width, map }
+        self.entered(self.width().max(v.min(WIDEST)))
     }
 
     // Of more arguments than the largest width, the first count.
@@ -106,22 +78,12 @@ pub impl Domain for Groups as SharingDomain {
         ensures reads { λ r. ⌜ read r ≡ backed (read (now (self .entry))) (take widest (now (args .entry))) (read (now (end .entry))) ⌝ }
         ensures rule { λ r. ⌜ Back-rule (read (now (self .entry))) (take widest (now (args .entry))) (read (now (end .entry))) (read r) ⌝ }
     {
-        let groups = self.groups();
-        let ends = end.groups();
-        if !ends.has(mask::EMPTY) {
-            return Groups {
-                width: self.width(),
-                map: Family::new(),
-            };
+        if !end.some() {
+            return self.stopped(args, end);
         }
-        let passed = mask::of(mask::first(args));
-        let unions = groups.meeting(passed).unions();
-        let returned = unions.meeting(passed).viewed_in(args, &ends);
-        let map = groups.missing(passed).union(&returned);
-        Groups {
-            width: self.width(),
-            map,
-        }
+        let kept = self.unpassed(args);
+        let returned = self.returned(args, end);
+        self.backed(args, end, &kept, &returned)
     }
 
     fn ground(&self, x: u8) -> bool
@@ -130,7 +92,7 @@ pub impl Domain for Groups as SharingDomain {
         ensures always { λ r. ⌜ (T r → Always-ground (read (now (self .entry))) x) ⌝ }
         ensures exact { λ r. ⌜ (Always-ground (read (now (self .entry))) x → T r) ⌝ }
     {
-        self.groups().meeting(mask::only(x)).is_empty()
+        self.none_has(&self.groups(), x)
     }
 
     fn apart(&self, x: u8, y: u8) -> bool
@@ -139,41 +101,13 @@ pub impl Domain for Groups as SharingDomain {
         ensures always { λ r. ⌜ (T r → Always-apart (read (now (self .entry))) x y) ⌝ }
         ensures exact { λ r. ⌜ (Always-apart (read (now (self .entry))) x y → T r) ⌝ }
     {
-        self.groups()
-            .meeting(mask::only(x))
-            .meeting(mask::only(y))
-            .is_empty()
+        self.none_has_both(&self.groups(), x, y)
     }
 
     // How many groups there are.
     fn rank(&self) -> u16
-        ensures { λ r. ⌜ r ≡ held (read (now (self .entry))) ⌝ }
+        ensures { λ r. ⌜ r ≡ size (read (now (self .entry))) ⌝ }
     {
-        self.groups().count()
+        self.counted(&self.groups())
     }
-}
-
-impl Groups {
-    // The groups that are read off the words: none past the width, and none at all where the empty one is missing.
-    pub(crate) fn groups(&self) -> Family
-        ensures { λ r. ⌜ ((g : ℕ) → holds r g ≡ read (now (self .entry)) .has g) ⌝ }
-    {
-        if self.map.has(mask::EMPTY) {
-            self.map.narrowed(self.width())
-        } else {
-            Family::new()
-        }
-    }
-}
-
-// The family with each variable from the first number up to the second, alone.
-fn with_each(family: Family, from: u8, to: u8) -> Family
-    requires { ⌜ from ≤ to ⌝ ∗ ⌜ to ≤ widest ⌝ }
-    ensures { λ r. ⌜ ((h : ℕ) → holds r h ≡ (holds family h || any to (λ i. leb from i && eqb h (2 ^ i)))) ⌝ }
-{
-    let mut all = family;
-    for i in from..to {
-        all.insert(mask::only(i));
-    }
-    all
 }

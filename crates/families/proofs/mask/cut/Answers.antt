@@ -1,22 +1,17 @@
-use mathlib.Core.Path.{_≡_, refl, sym, ap, subst, _∙_}
+use mathlib.Core.Path.{_≡_, ap, _∙_}
 use mathlib.Core.List.{List}
-use Prim.Native.Nat.{ℕ, _<_, _≤_, _+_, _^_, _*_, _%_}
+use Prim.Native.Nat.{ℕ, _<_, _≤_, _^_}
 use native.Mathlib.Omega.{arith}
 use lib.Bits.{bitOr}
-use lib.Dec.{T}
 use lib.ListN.{take, length, getD}
 use Rattle.std.proofs.shelf.Bits.{one-shl}
 use Rattle.std.proofs.shelf.Lists.{length-take}
 use Rattle.domain.specs.Variables.{widest}
-use Rattle.families.specs.Masks.{cut, pack, bit}
+use Rattle.families.specs.Masks.{cut, bit}
 use Rattle.families.proofs.Tests.{shown, denied}
 use Rattle.families.proofs.Loops.{cut-in, cut-out}
 use Rattle.families.proofs.mask.cut.Needs as need
 use Rattle.families.proofs.mask.cut.Needs.{then-contains, else-contains}
-
-pub loop-i-holds : need.loop-i-holds
-unfolding cut pack
-loop-i-holds c = refl
 
 pub loop-i-again : need.loop-i-again
 loop-i-again c =

@@ -1,26 +1,27 @@
-use mathlib.Core.Path.{_≡_, subst}
-use mathlib.Core.Logic.{_↔_}
+use mathlib.Core.Path.{_≡_, sym, ap, _∙_}
 use mathlib.Core.List.{List}
-use Prim.Native.Nat.{ℕ, _<_}
-use native.Mathlib.Omega.{arith}
-use lib.Dec.{T}
-use lib.ListN.{take}
-use Rattle.std.proofs.shelf.Lists.{take-all}
-use Rattle.domain.specs.Variables.{Listed, widest}
-use Rattle.families.specs.Masks.{bit}
-use Rattle.families.proofs.Loops.{listed-in}
-use Rattle.families.proofs.Masks.{zero-bits}
+use Prim.Native.Nat.{ℕ, _+_}
+use lib.Bits.{bitOr, or-zero-r}
+use lib.ListN.{drop, getD}
+use Rattle.std.proofs.shelf.Lists.{drop-all, drop-more}
+use Rattle.families.specs.Masks.{alone, coded}
+use Rattle.families.proofs.Masks.{or-assoc}
 use Rattle.families.proofs.mask.of.Needs as need
-
-pub loop-x-holds : need.loop-x-holds
-loop-x-holds c i = (λ t. absurd (zero-bits i t), λ h. absurd (h .0))
 
 pub loop-x-again : need.loop-x-again
 loop-x-again c =
-    listed-in (c .args .xs .now) (c .loop-x .x-index) (c .loop-x .all) (c .only-all .result) (c .loop-x-test .taken) (c .loop-x .inv)
-    (c .only-all .ensures)
+    let xs : List ℕ = c .args .xs .now in
+    let k : ℕ = c .loop-x .x-index in
+    let all : ℕ = c .loop-x .all in
+    let rest : ℕ = coded (drop (k + 1) xs) in
+    ap (λ (m : ℕ). bitOr (bitOr all m) rest) (c .only-all .ensures)
+    ∙ or-assoc all (alone (getD xs k 0)) rest
+    ∙ ap (λ (ys : List ℕ). bitOr all (coded ys)) (sym (drop-more xs k 0 (c .loop-x-test .taken)))
+    ∙ c .loop-x .inv
 
 pub returns : need.returns
-returns c i =
-    subst (λ (ys : List ℕ). T (bit (c .loop-x .all) i) ↔ (Listed i ys × (i < widest)))
-    (take-all (c .loop-x .x-index) (c .args .xs .now) (c .loop-x-test .left)) (c .loop-x .inv i)
+returns c =
+    let xs : List ℕ = c .args .xs .now in
+    let all : ℕ = c .loop-x .all in
+    sym (or-zero-r all) ∙ ap (λ (ys : List ℕ). bitOr all (coded ys)) (sym (drop-all (c .loop-x .x-index) xs (c .loop-x-test .left)))
+    ∙ c .loop-x .inv

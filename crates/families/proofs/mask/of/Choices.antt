@@ -1,11 +1,9 @@
-use Prim.Native.Nat.{ℕ, _<_}
-use mathlib.Core.Logic.{_↔_}
-use lib.Dec.{T}
-use lib.ListN.{take}
-use Rattle.domain.specs.Variables.{Listed, widest}
-use Rattle.families.specs.Masks.{bit}
+use mathlib.Core.Path.{_≡_}
+use lib.Bits.{bitOr}
+use lib.ListN.{drop}
+use Rattle.families.specs.Masks.{coded}
 use Rattle.families.proofs.mask.of.Given as given
 
--- the variables so far
+-- what is still to come makes up the rest
 abbrev pub Inv-loop-x : given.InvT-loop-x
-Inv-loop-x l = (i : ℕ) → T (bit (l .all) i) ↔ (Listed i (take (l .x-index) (l .xs)) × (i < widest))
+Inv-loop-x l = bitOr (l .all) (coded (drop (l .x-index) (l .xs))) ≡ coded (l .xs)

@@ -10,11 +10,11 @@ use Rattle.families.proofs.Words.{by-words, holds-lies, holds-past, lies-put}
 use Rattle.families.proofs.Tests.{and-true}
 use Rattle.families.proofs.family.Family.insert.Needs as need
 
-pub returns-then-g-lt-SETS : need.returns-then-g-lt-SETS
-returns-then-g-lt-SETS c =
+pub returns-then-g-room : need.returns-then-g-room
+returns-then-g-room c =
     let f = c .args .self .now in
     let g = c .args .g in
-    let low : g < sets = c .if-g-lt-SETS .taken in
+    let low : g < sets = c .if-g-room .taken in
     let there : g / word < length (f .words) = omega arith in
     by-words _ (λ h. holds f h || (eqb h g && ltb g sets))
     (λ h l.
