@@ -69,8 +69,8 @@ impl Family {
         ensures yes { λ r. ⌜ (T r → (g : ℕ) → T (holds (now (self .entry)) g) → T (holds (now (other .entry)) g)) ⌝ }
         ensures only { λ r. ⌜ (((g : ℕ) → T (holds (now (self .entry)) g) → T (holds (now (other .entry)) g)) → T r) ⌝ }
     {
-        for i in 0..WORDS {
-            if self.words[i] | other.words[i] != other.words[i] {
+        for k in 0..WORDS {
+            if self.words[k] | other.words[k] != other.words[k] {
                 return false;
             }
         }

@@ -14,7 +14,7 @@ pub returns-then-g-room : need.returns-then-g-room
 returns-then-g-room c =
     let f = c .args .self .now in
     let g = c .args .g in
-    let low : g < sets = c .if-g-room .taken in
+    let low : g < sets = omega arith in
     let there : g / word < length (f .words) = omega arith in
     by-words _ (λ h. holds f h || (eqb h g && ltb g sets))
     (λ h l.

@@ -7,17 +7,17 @@ use Rattle.families.specs.Words.{word, sets, holds, lies}
 use Rattle.families.proofs.Words.{holds-low, holds-lies, or-within, within-or}
 use Rattle.families.proofs.family.Family.within.Needs as need
 
-pub returns-then-self-i : need.returns-then-self-i
-returns-then-self-i c =
+pub returns-then-self-k : need.returns-then-self-k
+returns-then-self-k c =
     let a = c .args .self .now in
     let b = c .args .other .now in
-    let k = c .loop-i .i in
-    let few : k < 4 = c .loop-i-test .taken in
+    let k = c .loop-k .k in
+    let few : k < 4 = c .loop-k-test .taken in
     let fits : getD (a .words) k 0 < 2 ^ word = omega arith in
     record {
       yes = λ t. absurd t;
       only = λ each.
-          c .if-self-i .taken
+          c .if-self-k .taken
           (within-or (a .words) (b .words) k fits
           (λ i l t.
           let g : ℕ = word * k + i in
@@ -29,11 +29,11 @@ pub returns : need.returns
 returns c =
     let a = c .args .self .now in
     let b = c .args .other .now in
-    let done : 4 ≤ c .loop-i .i = c .loop-i-test .left in
+    let done : 4 ≤ c .loop-k .k = c .loop-k-test .left in
     record {
       yes = λ t g held.
           let low = holds-low a g held in
           subst T (sym (holds-lies b g low))
-          (or-within (a .words) (b .words) g (c .loop-i .inv (g / word) (omega arith)) (subst T (holds-lies a g low) held));
+          (or-within (a .words) (b .words) g (c .loop-k .inv (g / word) (omega arith)) (subst T (holds-lies a g low) held));
       only = λ each. tt;
     }

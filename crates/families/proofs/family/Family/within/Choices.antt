@@ -5,5 +5,5 @@ use lib.ListN.{getD}
 use Rattle.families.proofs.family.Family.within.Given as given
 
 -- the words so far lie within
-abbrev pub Inv-loop-i : given.InvT-loop-i
-Inv-loop-i l = (k : ℕ) → k < l .i → bitOr (getD (l .self .words) k 0) (getD (l .other .words) k 0) ≡ getD (l .other .words) k 0
+abbrev pub Inv-loop-k : given.InvT-loop-k
+Inv-loop-k l = (k : ℕ) → k < l .k → bitOr (getD (l .self .words) k 0) (getD (l .other .words) k 0) ≡ getD (l .other .words) k 0
