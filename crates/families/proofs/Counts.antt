@@ -95,17 +95,7 @@ ones-count (suc n) w below =
     lowest false e =
         ⊎-elim (λ one. absurd (subst T (sym (e ∙ eq-eqb (w % 2) 1 one)) tt)) (λ n. omega arith) (cases-eq (w % 2) 1)
 
--- none passes where none is counted, and the other way round
-pub count-none : (n : ℕ) (p : ℕ → Bool) → count n p ≡ 0 → (k : ℕ) → k < n → T (p k) → ⊥
-unfolding count
-count-none zero p e k l t = omega arith
-count-none (suc n) p e k l t = step (p n) refl e (count-none n p)
-  where
-    step : (b : Bool) → p n ≡ b → cond b 1 0 + count n p ≡ 0 → (count n p ≡ 0 → (k : ℕ) → k < n → T (p k) → ⊥) → ⊥
-    step true f e rest = omega arith
-    step false f e rest =
-        ⊎-elim (λ here. subst T (ap p here ∙ f) t) (λ d. rest (omega arith) k (omega arith) t) (cases-eq k n)
-
+-- where nothing passes nothing is counted
 pub none-count : (n : ℕ) (p : ℕ → Bool) → ((k : ℕ) → T (p k) → ⊥) → count n p ≡ 0
 unfolding count
 none-count zero p none = refl

@@ -1,17 +1,16 @@
 -- Sets as they are listed, one more at a time. Assumes nothing.
-use mathlib.Core.Path.{_≡_, refl, sym, subst}
+use mathlib.Core.Path.{_≡_, sym, subst}
 use mathlib.Core.Bool.{Bool, _&&_, _||_}
 use mathlib.Core.List.{List, [], _∷_, _++_}
 use mathlib.Core.Logic.{_↔_, _⊎_, inl, inr, ⊎-elim}
 use denote.Ref.{RefT, now}
-use Prim.Native.Nat.{ℕ, zero, suc, _+_, _^_, _<_, _≤_}
+use Prim.Native.Nat.{ℕ, zero, suc, _+_, _<_}
 use native.Mathlib.Omega.{arith}
 use lib.Dec.{T, eqb, eqb→eq, eqb-refl, ltb, lt→ltb}
 use lib.ListN.{length, getD, take}
 use Rattle.std.proofs.shelf.Lists.{take-more}
 use Rattle.domain.specs.Variables.{Below, widest}
 use Rattle.families.specs.Listings.{Within, Coded, Codes}
-use Rattle.families.specs.Masks.{bit}
 use Rattle.families.specs.Words.{sets}
 use Rattle.families.proofs.Tests.{and-split, and-pair, or-split, or-left, or-right}
 use Rattle.families.proofs.Masks.{same-bits, bits-below}

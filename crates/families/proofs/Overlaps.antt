@@ -1,14 +1,13 @@
 -- Sets that have a variable in common, where one of them is that of listed variables. Assumes nothing.
 use mathlib.Core.Path.{_≡_, refl, sym, subst}
-use mathlib.Core.Bool.{Bool, true, false, not, _&&_, _||_}
 use mathlib.Core.List.{List}
 use mathlib.Core.Logic.{_↔_, _⊎_, inl, inr, ⊎-elim}
-use Prim.Native.Nat.{ℕ, zero, suc, _/_, _%_, _^_, _<_, _≤_}
+use Prim.Native.Nat.{ℕ, suc, _%_, _<_}
 use native.Mathlib.Omega.{arith}
 use lib.Arith.{bin-ind}
 use lib.Bits.{bitAnd, bitOr}
 use lib.Dec.{T, eqb, eqb→eq, T-not, not-T}
-use Rattle.std.proofs.shelf.Tests.{cases-eq, cases-lt, eq-eqb}
+use Rattle.std.proofs.shelf.Tests.{cases-eq, cases-lt}
 use Rattle.domain.specs.Variables.{widest}
 use Rattle.families.specs.Masks.{bit, meets, overlaps, alone, coded}
 use Rattle.families.specs.Words.{sets}

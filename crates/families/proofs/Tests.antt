@@ -3,7 +3,7 @@ use mathlib.Core.Path.{_≡_, refl, subst, sym}
 use mathlib.Core.Bool.{Bool, true, false, not, _&&_, _||_}
 use mathlib.Core.Logic.{_⊎_, inl, inr, ⊎-elim}
 use mathlib.Core.List.{List, [], _∷_}
-use Prim.Native.Nat.{ℕ, zero, suc, _<_, _≤_}
+use Prim.Native.Nat.{ℕ, zero, suc, _<_}
 use native.Mathlib.Omega.{arith}
 use lib.Dec.{T}
 use Rattle.domain.specs.Variables.{Listed}
@@ -99,13 +99,6 @@ pub each-all : (n : ℕ) (p : ℕ → Bool) → ((k : ℕ) → k < n → T (p k)
 unfolding all
 each-all zero p f = tt
 each-all (suc n) p f = and-pair (p n) (all n p) (f n (omega arith)) (each-all n p (λ k l. f k (omega arith)))
-
--- past m nothing passes
-pub any-few : (m n : ℕ) (p q : ℕ → Bool) → m ≤ n → ((k : ℕ) → p k ≡ q k) → ((k : ℕ) → T (q k) → k < m) → any n p ≡ any m q
-any-few m n p q small same few =
-    same-test (any n p) (any m q)
-    (λ t. let (k, l, h) = any-some n p t in let h′ = subst T (same k) h in some-any m q k (few k h′) h′)
-    (λ t. let (k, l, h) = any-some m q t in some-any n p k (omega arith) (subst T (sym (same k)) h))
 
 -- ---- the tests of a set
 

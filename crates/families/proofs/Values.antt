@@ -1,13 +1,13 @@
 -- Values that are sets of sets of variables: their order, what keeps it, and the rank along it. Assumes nothing.
 use mathlib.Core.Path.{_≡_, refl, sym, subst, fun-ext}
-use mathlib.Core.Bool.{Bool, true, false, cond, _&&_}
+use mathlib.Core.Bool.{_&&_}
 use mathlib.Core.List.{List}
 use mathlib.Core.Logic.{⊎-elim, _↔_}
-use Prim.Native.Nat.{ℕ, zero, suc, _+_, _^_, _<_, _≤_}
+use Prim.Native.Nat.{ℕ, _^_, _<_, _≤_}
 use native.Mathlib.Omega.{arith}
 use lib.Dec.{T, eqb, eqb→eq, eqb-refl}
 use lib.Pow.{pow-mono}
-use Rattle.std.proofs.shelf.Tests.{cases-eq, cases-lt}
+use Rattle.std.proofs.shelf.Tests.{cases-lt}
 use Rattle.domain.specs.Variables.{widest}
 use Rattle.families.specs.Masks.{cut, count}
 use Rattle.families.specs.Values.{Value, Under, Fits, viewed, viewed-has, rank}

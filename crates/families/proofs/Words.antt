@@ -1,38 +1,29 @@
 -- What lies in words, word by word: the laws of `lies` that the code over words stands on. Over any number of words.
 -- Assumes nothing.
-use mathlib.Core.Path.{_≡_, refl, sym, ap, ap₂, subst, _∙_}
-use mathlib.Core.Bool.{Bool, true, false, cond, _&&_, _||_}
-use mathlib.Core.List.{List, [], _∷_}
-use mathlib.Core.Logic.{_≢_, inl, inr, ⊎-elim}
+use mathlib.Core.Path.{_≡_, sym, ap, ap₂, subst, _∙_}
+use mathlib.Core.Bool.{Bool, false, _&&_, _||_}
+use mathlib.Core.List.{List}
+use mathlib.Core.Logic.{⊎-elim}
 use Prim.Native.Nat.{ℕ, zero, suc, _+_, _*_, _/_, _%_, _^_, _<_, _≤_}
-use native.Mathlib.Nat.{pow-suc}
 use native.Mathlib.Omega.{arith}
-use lib.Bits.{bitAnd, bitOr, and-mask}
+use lib.Bits.{bitOr}
 use lib.Count.{ones}
 use lib.Dec.{T, eqb, eqb→eq, eqb-refl, ltb, ltb→lt, lt→ltb}
 use lib.ListN.{length, getD, set}
 use lib.Seq.{getD-set-same, getD-set-other}
 use Rattle.std.proofs.shelf.Bits.{one-shl}
-use Rattle.std.proofs.shelf.Lists.{getD-past}
-use Rattle.std.proofs.shelf.Tests.{cases-eq, cases-lt, eq-eqb, ne-eqb}
+use Rattle.std.proofs.shelf.Tests.{cases-eq, cases-lt, ne-eqb}
 use Rattle.families.specs.Masks.{bit, count}
 use Rattle.families.specs.declared.family.Family.{Family}
 use Rattle.families.specs.Words.{word, sets, lies, holds}
 use Rattle.families.proofs.Counts.{count-zero, count-alike, count-more, ones-count}
 use Rattle.families.proofs.Tests.{and-split, and-pair, or-split, or-left, or-right, or-false, same-test}
-use Rattle.families.proofs.Masks.{bit-zero, bit-suc, zero-bits, same-bits, below-bits, bit-or, bit-power, power-bit}
+use Rattle.families.proofs.Masks.{same-bits, below-bits, bit-or, bit-power, power-bit}
 
 -- ---- one word
 
-pub no-bit : (i : ℕ) → bit 0 i ≡ false
-no-bit i = same-test (bit 0 i) false (zero-bits i) (λ t. absurd t)
-
 pub high-bit : (n g i : ℕ) → g < 2 ^ n → n ≤ i → bit g i ≡ false
 high-bit n g i below high = same-test (bit g i) false (below-bits n g i below high) (λ t. absurd t)
-
--- the test of a bit by a shift and a mask
-pub shifted-bit : (w i : ℕ) → eqb (bitAnd (w / 2 ^ i) 1) 1 ≡ bit w i
-shifted-bit w i = ap (λ (n : ℕ). eqb n 1) (and-mask (w / 2 ^ i) 1)
 
 pub power-test : (j i : ℕ) → bit (2 ^ j) i ≡ eqb i j
 power-test j i =
@@ -40,9 +31,6 @@ power-test j i =
     (λ t. subst (λ (k : ℕ). T (bit (2 ^ j) k)) (sym (eqb→eq i j t)) (bit-power j))
 
 -- ---- in words
-
-pub lies-none : (ws : List ℕ) → ((k : ℕ) → getD ws k 0 ≡ 0) → (g : ℕ) → lies ws g ≡ false
-lies-none ws zeros g = ap (λ (w : ℕ). bit w (g % word)) (zeros (g / word)) ∙ no-bit (g % word)
 
 -- at bit i of word k
 pub lies-at : (ws : List ℕ) (k i : ℕ) → i < word → lies ws (word * k + i) ≡ bit (getD ws k 0) i

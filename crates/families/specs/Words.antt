@@ -1,8 +1,7 @@
 -- A family of sets of variables as it lies in words: the set with mask g is bit g of the words in a row.
 use mathlib.Core.Bool.{Bool, _&&_}
-use mathlib.Core.List.{List, [], _∷_}
-use Prim.Native.Nat.{ℕ, _+_, _/_, _%_, _^_}
-use lib.Count.{ones}
+use mathlib.Core.List.{List}
+use Prim.Native.Nat.{ℕ, _/_, _%_, _^_}
 use lib.Dec.{ltb}
 use lib.ListN.{getD}
 use Rattle.domain.specs.Variables.{widest}
@@ -20,11 +19,6 @@ sets = 2 ^ widest
 -- the set g is there; past the last word nothing is
 abbrev pub lies : List ℕ → ℕ → Bool
 lies ws g = bit (getD ws (g / word) 0) (g % word)
-
--- the ones in the words
-abbrev pub ones-in : List ℕ → ℕ
-ones-in [] = 0
-ones-in (w ∷ ws) = ones w + ones-in ws
 
 -- the family has the set g, one of those of variables below the largest width
 abbrev pub holds : Family → ℕ → Bool

@@ -17,7 +17,7 @@ use Rattle.families.proofs.Tests.{and-split, and-pair, or-split, or-left, or-ri
 use Rattle.families.proofs.Overlaps.{overlaps-or, overlaps-alone, overlaps-coded}
 use Rattle.families.proofs.Unions.{selection-map, selection-below, selected-meets}
 use Rattle.sharing.specs.Sharing.{Full, touches, tied, backed}
-use Rattle.sharing.specs.Rules.{Touched, Passed}
+use Rattle.sharing.specs.Rules.{Passed}
 use Rattle.sharing.specs.Parts.{Untouched, Joined, Unpassed, Returned}
 use Rattle.sharing.proofs.Joins.{tied-by-unions, backed-by-unions}
 

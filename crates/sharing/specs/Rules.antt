@@ -1,13 +1,12 @@
 -- The functions of sharing groups in plain words: which groups each gives, by selections of groups, and what its
 -- verdicts say of the lists described.
 use mathlib.Core.Path.{_≡_}
-use mathlib.Core.Bool.{Bool, true}
-use mathlib.Core.List.{List, [], _∷_}
+use mathlib.Core.Bool.{true}
+use mathlib.Core.List.{List}
 use mathlib.Core.Logic.{_↔_, _⊎_}
 use Prim.Native.Nat.{ℕ, _^_, _<_, _≤_}
 use lib.Dec.{T}
 use lib.ListN.{length}
-use Rattle.domain.specs.Variables.{Listed}
 use Rattle.domain.specs.Term.{Term, Occurs, term-at}
 use Rattle.families.specs.Masks.{bit, cut, meets}
 use Rattle.families.specs.Unions.{Selection, One}

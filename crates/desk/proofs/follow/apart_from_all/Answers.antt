@@ -1,6 +1,5 @@
 use mathlib.Core.Path.{sym, subst}
 use mathlib.Core.Logic.{⊎-elim}
-use Prim.Native.Nat.{ℕ}
 use lib.ListN.{getD}
 use Rattle.std.proofs.shelf.Lists.{take-all}
 use Rattle.domain.specs.Variables.{Listed}

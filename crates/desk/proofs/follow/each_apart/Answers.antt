@@ -1,5 +1,4 @@
 use mathlib.Core.Path.{sym, subst}
-use mathlib.Core.List.{List}
 use mathlib.Core.Logic.{⊎-elim}
 use Prim.Native.Nat.{ℕ}
 use lib.ListN.{getD}

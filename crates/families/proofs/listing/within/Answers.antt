@@ -2,9 +2,7 @@ use mathlib.Core.Path.{subst}
 use mathlib.Core.List.{List}
 use denote.Ref.{RefT, now}
 use Prim.Native.Nat.{ℕ}
-use lib.ListN.{getD}
 use Rattle.std.proofs.shelf.Lists.{take-all}
-use Rattle.domain.specs.Variables.{Below}
 use Rattle.families.specs.Listings.{Within}
 use Rattle.families.proofs.Lists.{below-each, each-below}
 use Rattle.families.proofs.Listings.{within-more, within-at}

@@ -1,13 +1,13 @@
-use mathlib.Core.Path.{_≡_, ap, _∙_}
+use mathlib.Core.Path.{ap, _∙_}
 use mathlib.Core.List.{List}
 use Prim.Native.Nat.{ℕ, _<_, _≤_, _^_}
 use native.Mathlib.Omega.{arith}
 use lib.Bits.{bitOr}
-use lib.ListN.{take, length, getD}
+use lib.ListN.{length, getD}
 use Rattle.std.proofs.shelf.Bits.{one-shl}
 use Rattle.std.proofs.shelf.Lists.{length-take}
 use Rattle.domain.specs.Variables.{widest}
-use Rattle.families.specs.Masks.{cut, bit}
+use Rattle.families.specs.Masks.{bit}
 use Rattle.families.proofs.Tests.{shown, denied}
 use Rattle.families.proofs.Loops.{cut-in, cut-out}
 use Rattle.families.proofs.mask.cut.Needs as need

@@ -1,12 +1,12 @@
 use mathlib.Core.Path.{_≡_, sym, ap, _∙_}
 use mathlib.Core.List.{List}
-use Prim.Native.Nat.{ℕ, _<_, _≤_, _+_, _*_, _^_}
+use Prim.Native.Nat.{ℕ, _<_, _+_, _*_, _^_}
 use native.Mathlib.Omega.{arith}
 use lib.ListN.{getD}
 use Rattle.families.specs.Masks.{count}
 use Rattle.families.specs.Words.{word, lies, holds, sets}
 use Rattle.families.proofs.Counts.{count-le, count-alike}
-use Rattle.families.proofs.Words.{count-words, count-words-is, count-word, holds-lies}
+use Rattle.families.proofs.Words.{count-words-is, count-word, holds-lies}
 use Rattle.families.proofs.family.Family.count.Needs as need
 
 pub add-n : need.add-n

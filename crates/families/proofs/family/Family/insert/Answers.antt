@@ -1,11 +1,11 @@
-use mathlib.Core.Path.{_≡_, _∙_, ap, ap₂, sym}
-use mathlib.Core.Bool.{Bool, false, _||_, _&&_}
-use Prim.Native.Nat.{ℕ, _<_, _≤_, _/_}
+use mathlib.Core.Path.{_∙_, ap₂, sym}
+use mathlib.Core.Bool.{_||_, _&&_}
+use Prim.Native.Nat.{_<_, _/_}
 use native.Mathlib.Omega.{arith}
 use lib.Dec.{eqb, ltb}
 use lib.ListN.{length}
 use Rattle.std.proofs.shelf.Tests.{lt-ltb, ne-eqb, and-left}
-use Rattle.families.specs.Words.{word, sets, holds, lies}
+use Rattle.families.specs.Words.{word, sets, holds}
 use Rattle.families.proofs.Words.{by-words, holds-lies, holds-past, lies-put}
 use Rattle.families.proofs.Tests.{and-true}
 use Rattle.families.proofs.family.Family.insert.Needs as need

@@ -1,6 +1,6 @@
-use mathlib.Core.Path.{_≡_, sym, ap₂, _∙_}
+use mathlib.Core.Path.{sym, ap₂, _∙_}
 use mathlib.Core.Bool.{_||_}
-use Prim.Native.Nat.{_<_, _≤_, _/_}
+use Prim.Native.Nat.{_≤_, _/_}
 use native.Mathlib.Omega.{arith}
 use Rattle.families.specs.Words.{word, holds}
 use Rattle.families.proofs.Words.{by-words, holds-lies, holds-past, lies-or}

@@ -1,9 +1,9 @@
-use mathlib.Core.Path.{_≡_, sym, subst}
+use mathlib.Core.Path.{sym, subst}
 use Prim.Native.Nat.{ℕ, _<_, _≤_, _+_, _*_, _/_, _^_}
 use native.Mathlib.Omega.{arith}
 use lib.Dec.{T}
 use lib.ListN.{getD}
-use Rattle.families.specs.Words.{word, sets, holds, lies}
+use Rattle.families.specs.Words.{word, sets}
 use Rattle.families.proofs.Words.{holds-low, holds-lies, or-within, within-or}
 use Rattle.families.proofs.family.Family.within.Needs as need
 

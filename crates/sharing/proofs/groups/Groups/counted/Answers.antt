@@ -1,4 +1,4 @@
-use mathlib.Core.Path.{_≡_, _∙_}
+use mathlib.Core.Path.{_∙_}
 use Prim.Native.Nat.{_^_, _≤_}
 use lib.Pow.{pow-mono}
 use Rattle.families.specs.Words.{holds, sets}

@@ -1,7 +1,7 @@
-use mathlib.Core.Path.{_≡_, sym, ap, subst, _∙_}
+use mathlib.Core.Path.{ap, _∙_}
 use mathlib.Core.Bool.{Bool, false, _&&_}
 use Prim.Native.Nat.{ℕ, _^_}
-use lib.Dec.{T, ltb}
+use lib.Dec.{ltb}
 use Rattle.families.specs.Words.{holds}
 use Rattle.families.proofs.Tests.{and-split, and-pair, same-test, shown, denied}
 use Rattle.sharing.specs.Sharing.{read-width, read-has}

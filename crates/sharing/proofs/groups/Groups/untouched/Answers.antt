@@ -1,4 +1,4 @@
-use mathlib.Core.Path.{_≡_, ap, ap₂, subst}
+use mathlib.Core.Path.{_≡_, ap₂, subst}
 use mathlib.Core.Bool.{not, _&&_}
 use Prim.Native.Nat.{ℕ}
 use lib.Bits.{bitOr}
