@@ -16,6 +16,10 @@ word = 64
 abbrev pub sets : ℕ
 sets = 2 ^ widest
 
+-- how many words hold a bit for each of them
+abbrev pub word-count : ℕ
+word-count = sets / word
+
 -- the set g is there; past the last word nothing is
 abbrev pub lies : List ℕ → ℕ → Bool
 lies ws g = bit (getD ws (g / word) 0) (g % word)

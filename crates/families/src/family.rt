@@ -11,11 +11,12 @@ ghost use Rattle.families.specs.Unions.{Selection, Inside};
 ghost use Rattle.families.specs.Words.{holds, sets};
 use super::mask;
 use super::mask::Mask;
+use domain::WIDEST;
 
-// The sets of variables below the largest width, and the words that hold a bit for each.
-const SETS: usize = 256;
+// How many sets there are of variables below the largest width, and how many words hold a bit for each.
+pub const SETS: usize = 1 << WIDEST;
 
-const WORDS: usize = 4;
+const WORDS: usize = SETS / 64;
 
 #[derive(Clone, Copy)]
 pub struct Family {

@@ -6,6 +6,7 @@ mod listing;
 pub mod mask;
 
 pub use family::Family;
+pub use family::SETS;
 pub use family::Test;
 pub use listing::Listing;
 pub use mask::Mask;

@@ -4,6 +4,7 @@ use super::sharing::SharingDomain;
 use domain::Domain;
 use domain::WIDEST;
 use families::Mask;
+use families::SETS;
 use families::mask;
 use std::fmt;
 
@@ -15,7 +16,7 @@ pub impl fmt::Display for Groups as GroupsDisplay {
         }
         f.write_str("{")?;
         let mut first = true;
-        for g in 0..256 {
+        for g in 0..SETS {
             if groups.has(g) {
                 if !first {
                     f.write_str(",")?;

@@ -3,7 +3,7 @@ use Prim.Native.Nat.{ℕ, _<_, _≤_, _+_, _*_, _/_, _^_}
 use native.Mathlib.Omega.{arith}
 use lib.Dec.{T}
 use lib.ListN.{getD}
-use Rattle.families.specs.Words.{word, sets}
+use Rattle.families.specs.Words.{word, sets, word-count}
 use Rattle.families.proofs.Words.{holds-low, holds-lies, or-within, within-or}
 use Rattle.families.proofs.family.Family.within.Needs as need
 
@@ -12,7 +12,7 @@ returns-then-self-k c =
     let a = c .args .self .now in
     let b = c .args .other .now in
     let k = c .loop-k .k in
-    let few : k < 4 = c .loop-k-test .taken in
+    let few : k < word-count = c .loop-k-test .taken in
     let fits : getD (a .words) k 0 < 2 ^ word = omega arith in
     record {
       yes = λ t. absurd t;
@@ -29,7 +29,7 @@ pub returns : need.returns
 returns c =
     let a = c .args .self .now in
     let b = c .args .other .now in
-    let done : 4 ≤ c .loop-k .k = c .loop-k-test .left in
+    let done : word-count ≤ c .loop-k .k = c .loop-k-test .left in
     record {
       yes = λ t g held.
           let low = holds-low a g held in
