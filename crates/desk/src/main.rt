@@ -18,9 +18,8 @@ fn main(rt: LibcRuntime) -> Result<(), AnyError> {
     rt.report(rehearse(&rt))
 }
 
-// screens(Cue, Left, Right): a cue is a scene and a text; the left screen shows the text, and the right one the text
-// with the note in the margin. The variables are 0 Cue, 1 Left, 2 Right, 3 Scene, 4 Text, 5 Note, 6 Margin, and the
-// functors 1 `at`, 2 `plain`, 3 `noted`.
+// A cue is a scene and a text; the left screen shows the text, and the right one the text with the note in the margin.
+// Functor 1 is `at`, 2 `plain` and 3 `noted`.
 fn rehearse(rt: &LibcRuntime) -> Result<(), AnyError> {
     let goals = [
         Goal::Build {
@@ -45,6 +44,11 @@ fn rehearse(rt: &LibcRuntime) -> Result<(), AnyError> {
         variables: 7,
         goals: &goals,
     };
+    println!(rt, "screens(Cue, Left, Right)")?;
+    println!(
+        rt,
+        "variables  0 Cue, 1 Left, 2 Right, 3 Scene, 4 Text, 5 Note, 6 Margin"
+    )?;
     // The cue comes bound; the two titles do not, and share nothing.
     let mut entry = Groups::never(clause.arguments);
     match Groups::make(clause.arguments, Listing::Sets(&[&[1], &[2]]), &mut entry) {
