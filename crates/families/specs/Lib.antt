@@ -2,4 +2,5 @@ pub mod Masks
 pub mod Values
 pub mod Unions
 pub mod Words
+pub mod Families
 pub mod Listings

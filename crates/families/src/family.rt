@@ -1,13 +1,12 @@
 // A set of sets of variables, one bit for each set.
 ghost use mathlib.Core.Path.{_≡_};
-ghost use mathlib.Core.Bool.{Bool, false, _&&_, _||_};
-ghost use mathlib.Core.Logic.{_↔_};
-ghost use Prim.Native.Nat.{ℕ, _<_};
-ghost use lib.Dec.{T, eqb, ltb};
+ghost use mathlib.Core.Bool.{Bool};
+ghost use Prim.Native.Nat.{ℕ};
+ghost use lib.Dec.{T};
 ghost use lib.ListN.{take};
 ghost use Rattle.domain.specs.Variables.{widest};
-ghost use Rattle.families.specs.Masks.{bit, count as counted, cut as cut-down};
-ghost use Rattle.families.specs.Unions.{Selection, Inside};
+ghost use Rattle.families.specs.Families.{Nothing, Added, Either, Included, Part, Cuts, All-unions, Union-within};
+ghost use Rattle.families.specs.Masks.{count as counted};
 ghost use Rattle.families.specs.Words.{holds, sets};
 use super::mask;
 use super::mask::Mask;
@@ -34,7 +33,7 @@ pub trait Test {
 impl Family {
     // No set at all.
     pub fn new() -> Family
-        ensures { λ r. ⌜ ((g : ℕ) → holds r g ≡ false) ⌝ }
+        ensures { λ r. ⌜ Nothing r ⌝ }
     {
         Family { words: [0; WORDS] }
     }
@@ -47,7 +46,7 @@ impl Family {
 
     // A set past the largest width is left out.
     pub fn insert(&mut self, g: Mask)
-        ensures { λ _. ⌜ ((h : ℕ) → holds (now (self .exit)) h ≡ (holds (now (self .entry)) h || (eqb h g && ltb g sets))) ⌝ }
+        ensures { λ _. ⌜ Added (now (self .entry)) g (now (self .exit)) ⌝ }
     {
         let room = 64 * WORDS;
         if g < room {
@@ -56,7 +55,7 @@ impl Family {
     }
 
     pub fn union(&self, other: &Family) -> Family
-        ensures { λ r. ⌜ ((g : ℕ) → holds r g ≡ (holds (now (self .entry)) g || holds (now (other .entry)) g)) ⌝ }
+        ensures { λ r. ⌜ Either (now (self .entry)) (now (other .entry)) r ⌝ }
     {
         let mut words = [0; WORDS];
         for i in 0..WORDS {
@@ -67,8 +66,8 @@ impl Family {
 
     // Whether each set of this family is one of the other's.
     pub fn within(&self, other: &Family) -> bool
-        ensures yes { λ r. ⌜ (T r → (g : ℕ) → T (holds (now (self .entry)) g) → T (holds (now (other .entry)) g)) ⌝ }
-        ensures only { λ r. ⌜ (((g : ℕ) → T (holds (now (self .entry)) g) → T (holds (now (other .entry)) g)) → T r) ⌝ }
+        ensures yes { λ r. ⌜ (T r → Included (now (self .entry)) (now (other .entry))) ⌝ }
+        ensures only { λ r. ⌜ (Included (now (self .entry)) (now (other .entry)) → T r) ⌝ }
     {
         for k in 0..WORDS {
             if self.words[k] | other.words[k] != other.words[k] {
@@ -90,15 +89,15 @@ impl Family {
     }
 
     pub fn is_empty(&self) -> bool
-        ensures yes { λ r. ⌜ (T r → (g : ℕ) → T (holds (now (self .entry)) g) → ⊥) ⌝ }
-        ensures only { λ r. ⌜ (((g : ℕ) → T (holds (now (self .entry)) g) → ⊥) → T r) ⌝ }
+        ensures yes { λ r. ⌜ (T r → Nothing (now (self .entry))) ⌝ }
+        ensures only { λ r. ⌜ (Nothing (now (self .entry)) → T r) ⌝ }
     {
         self.within(&Family::new())
     }
 
     // The sets that pass the test.
     pub fn filtered<P: Test>(&self, test: &P) -> Family
-        ensures { λ r. ⌜ ((g : ℕ) → holds r g ≡ (holds (now (self .entry)) g && P·Test .passes (now (test .entry)) g)) ⌝ }
+        ensures { λ r. ⌜ Part (now (self .entry)) (P·Test .passes (now (test .entry))) r ⌝ }
     {
         let mut passing = Family::new();
         for g in 0..SETS {
@@ -111,7 +110,7 @@ impl Family {
 
     // Each set cut down to the first variables listed.
     pub fn view(&self, xs: &[u8]) -> Family
-        ensures { λ r. ⌜ ((h : ℕ) → T (holds r h) ↔ ((g : ℕ) × T (holds (now (self .entry)) g) × (h ≡ cut-down (take widest (now (xs .entry))) g))) ⌝ }
+        ensures { λ r. ⌜ Cuts (now (self .entry)) (take widest (now (xs .entry))) r ⌝ }
     {
         let mut cuts = Family::new();
         for g in 0..SETS {
@@ -124,7 +123,7 @@ impl Family {
 
     // The unions of any selection of the sets; that of none is the empty set.
     pub fn unions(&self) -> Family
-        ensures { λ r. ⌜ ((h : ℕ) → T (holds r h) ↔ (Selection (λ g. T (holds (now (self .entry)) g)) h × (h < sets))) ⌝ }
+        ensures { λ r. ⌜ All-unions (now (self .entry)) r ⌝ }
     {
         let mut made = Family::new();
         for h in 0..SETS {
@@ -137,7 +136,7 @@ impl Family {
 
     // The union of the sets that lie within h: h itself, just where h is a union of some of them.
     fn union_within(&self, h: Mask) -> Mask
-        ensures { λ r. ⌜ ((i : ℕ) → T (bit r i) ↔ ((g : ℕ) × T (holds (now (self .entry)) g) × Inside g h × T (bit g i))) ⌝ }
+        ensures { λ r. ⌜ Union-within (now (self .entry)) h r ⌝ }
     {
         let mut all = mask::EMPTY;
         for g in 0..SETS {

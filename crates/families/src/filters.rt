@@ -1,11 +1,11 @@
 // Parts of a family, each by a test of its sets.
-ghost use mathlib.Core.Path.{_≡_};
-ghost use mathlib.Core.Bool.{not, _&&_};
+ghost use mathlib.Core.Bool.{not};
 ghost use denote.Ref.{now as at};
-ghost use Prim.Native.Nat.{ℕ, _^_};
+ghost use Prim.Native.Nat.{_^_};
 ghost use lib.Dec.{ltb};
 ghost use lib.ListN.{take};
 ghost use Rattle.domain.specs.Variables.{widest};
+ghost use Rattle.families.specs.Families.{Part};
 ghost use Rattle.families.specs.Masks.{cut as cut-down, overlaps};
 ghost use Rattle.families.specs.Words.{holds};
 use super::family::Family;
@@ -17,28 +17,28 @@ use super::mask::Mask;
 impl Family {
     // The sets of variables below the width.
     pub fn narrowed(&self, width: u8) -> Family
-        ensures { λ r. ⌜ ((g : ℕ) → holds r g ≡ (holds (now (self .entry)) g && ltb g (2 ^ width))) ⌝ }
+        ensures { λ r. ⌜ Part (now (self .entry)) (λ g. ltb g (2 ^ width)) r ⌝ }
     {
         self.filtered(&Narrow { width })
     }
 
     // The sets that have a variable of the mask.
     pub fn meeting(&self, mask: Mask) -> Family
-        ensures { λ r. ⌜ ((g : ℕ) → holds r g ≡ (holds (now (self .entry)) g && overlaps g mask)) ⌝ }
+        ensures { λ r. ⌜ Part (now (self .entry)) (λ g. overlaps g mask) r ⌝ }
     {
         self.filtered(&Meeting { mask })
     }
 
     // The sets that have no variable of the mask.
     pub fn missing(&self, mask: Mask) -> Family
-        ensures { λ r. ⌜ ((g : ℕ) → holds r g ≡ (holds (now (self .entry)) g && not (overlaps g mask))) ⌝ }
+        ensures { λ r. ⌜ Part (now (self .entry)) (λ g. not (overlaps g mask)) r ⌝ }
     {
         self.filtered(&Missing { mask })
     }
 
     // The sets that, cut down to the first variables listed, are in the other family.
     pub fn viewed_in(&self, xs: &[u8], other: &Family) -> Family
-        ensures { λ r. ⌜ ((g : ℕ) → holds r g ≡ (holds (now (self .entry)) g && holds (now (other .entry)) (cut-down (take widest (now (xs .entry))) g))) ⌝ }
+        ensures { λ r. ⌜ Part (now (self .entry)) (λ g. holds (now (other .entry)) (cut-down (take widest (now (xs .entry))) g)) r ⌝ }
     {
         self.filtered(&ViewedIn { xs, other })
     }

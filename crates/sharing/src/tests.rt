@@ -1,5 +1,5 @@
-// Values made, printed and read back: refusals, the two ends of the widths, words that spell no value, and arguments
-// out of bounds.
+// Values made, printed and read back: refusals, the two ends of the widths, unions of more than two groups, words that
+// spell no value, and arguments out of bounds.
 use super::groups::Groups;
 use super::sharing::SharingDomain;
 use super::show::GroupsDisplay;
@@ -9,6 +9,7 @@ use domain::RefusalDebug;
 use families::Family;
 use families::Listing;
 use families::mask;
+use std::mem::size_of;
 use std::test::*;
 
 fn shows(rt: &LibcRuntime, value: &Groups, text: &str) -> Result<(), Fail> {
@@ -54,7 +55,17 @@ fn the_narrowest_and_the_widest(rt: LibcRuntime) -> Result<(), Fail> {
     let wide = value(8, &[&[0, 1, 2, 3, 4, 5, 6], &[7, 7, 7, 7, 7, 7, 7, 7, 7]])?;
     shows(&rt, &wide, "{e,0123456,7}")?;
     shows(&rt, &wide.tie(7, &[0]), "{e,01234567}")?;
-    check_eq(wide.rank(), 3)
+    check_eq(wide.rank(), 3)?;
+    check_eq(size_of::<Groups>(), 40)
+}
+
+#[test]
+fn more_than_two_are_joined(rt: LibcRuntime) -> Result<(), Fail> {
+    let a = value(4, &[&[0, 2], &[0, 3], &[1]])?;
+    shows(&rt, &a.tie(0, &[1]), "{e,012,013,0123}")?;
+    let b = value(6, &[&[1], &[2, 5]])?;
+    shows(&rt, &b.back(&[4, 1, 5], &value(3, &[&[1, 2]])?), "{e,125}")?;
+    shows(&rt, &b.back(&[4, 1, 5], &Groups::never(3)), "never")
 }
 
 #[test]

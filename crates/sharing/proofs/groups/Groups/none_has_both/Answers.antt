@@ -1,11 +1,11 @@
 use mathlib.Core.Path.{_≡_, sym, subst}
-use mathlib.Core.Bool.{_&&_}
+use mathlib.Core.Bool.{false, _&&_}
 use Prim.Native.Nat.{ℕ}
 use lib.Dec.{T}
 use Rattle.families.specs.Masks.{overlaps, alone}
 use Rattle.families.specs.Words.{holds}
 use Rattle.families.proofs.Overlaps.{overlaps-alone}
-use Rattle.families.proofs.Tests.{and-split, and-pair}
+use Rattle.families.proofs.Tests.{and-split, and-pair, same-test}
 use Rattle.families.proofs.Words.{holds-low}
 use Rattle.sharing.specs.Sharing.{read, Apart}
 use Rattle.sharing.proofs.Exactness.{apart-exact}
@@ -30,12 +30,14 @@ returns c =
     let here : T (holds f g) = subst T (sym (c .pre g)) held in
     let low = holds-low f g here in
     let first : T (some g) = subst T (sym (some-is g)) (and-pair (holds f g) (overlaps g (alone x)) here (overlaps-alone g low x .1 has-x)) in
-    c .is-empty .ensures .yes t g (subst T (sym (both-is g)) (and-pair (some g) (overlaps g (alone y)) first (overlaps-alone g low y .1 has-y))) in
+    subst T (c .is-empty .ensures .yes t g) (subst T (sym (both-is g)) (and-pair (some g) (overlaps g (alone y)) first (overlaps-alone g low y .1 has-y))) in
     let only : Apart a x y → T (c .is-empty .result) = λ apart.
     c .is-empty .ensures .only
-    (λ g t.
+    (λ g.
+    same-test (both g) false
+    (λ t.
     let (first, n) = and-split (some g) (overlaps g (alone y)) (subst T (both-is g) t) in
     let (here, m) = and-split (holds f g) (overlaps g (alone x)) (subst T (some-is g) first) in
     let low = holds-low f g here in
-    apart g (subst T (c .pre g) here) (overlaps-alone g low x .0 m) (overlaps-alone g low y .0 n)) in
+    apart g (subst T (c .pre g) here) (overlaps-alone g low x .0 m) (overlaps-alone g low y .0 n)) (λ t. absurd t)) in
     record { yes = yes; only = only; always = λ t. exact .0 (yes t); exact = λ always. only (exact .1 always) }
