@@ -10,7 +10,6 @@ use domain::Domain;
 use domain::RefusalDisplay;
 use families::Listing;
 use sharing::Groups;
-use sharing::GroupsDisplay;
 use sharing::SharingDomain;
 use std::error::AnyError;
 

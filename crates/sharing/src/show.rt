@@ -1,7 +1,5 @@
 // Values in print: {e,0,12} has the empty group, that of variable 0 alone, and that of variables 1 and 2.
 use super::groups::Groups;
-use super::sharing::SharingDomain;
-use domain::Domain;
 use domain::WIDEST;
 use families::Mask;
 use families::SETS;
