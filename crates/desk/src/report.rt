@@ -9,14 +9,14 @@ use sharing::GroupsDisplay;
 use sharing::SharingDomain;
 use std::io;
 
-const FIRST: [u8; 8] = [0, 1, 2, 3, 4, 5, 6, 7];
+const MOST: usize = WIDEST as usize;
 
 // The clause from its entry row to its end, and the verdicts.
 pub fn clause(rt: &impl Print, clause: &Clause, entry: &Groups) -> io::Result<()> {
     println!(rt, "entry row  {entry}")?;
     let start = entry.enter(clause.variables);
     let end = points(rt, clause, &start)?;
-    let returned = end.view(head(clause.arguments));
+    let returned = returned(&end, clause.arguments);
     println!(rt, "returned   {returned}")?;
     println!(rt, "at the end")?;
     ground(rt, clause, &end)?;
@@ -24,9 +24,13 @@ pub fn clause(rt: &impl Print, clause: &Clause, entry: &Groups) -> io::Result<()
     neighbours(rt, clause, &start)
 }
 
-// The variables that are the head's arguments.
-fn head(arguments: u8) -> &'static [u8] {
-    &FIRST[0..arguments.min(WIDEST) as usize]
+// What the clause returns: the row at its end, at the arguments of its head.
+fn returned(end: &Groups, arguments: u8) -> Groups {
+    let mut head = [0; MOST];
+    for x in 0..WIDEST {
+        head[x as usize] = x;
+    }
+    end.view(&head[0..arguments.min(WIDEST) as usize])
 }
 
 // The row at every point; the last one is handed back.
