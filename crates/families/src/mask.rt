@@ -4,6 +4,7 @@ ghost use Prim.Native.Nat.{ℕ, _<_};
 ghost use lib.Dec.{T};
 ghost use lib.ListN.{length, getD, take};
 ghost use Rattle.domain.specs.Variables.{widest};
+ghost use Rattle.families.specs.MaskLaws.{Same-law, Alone-law, Coded-law, Cut-law, Meets-law, Overlaps-law};
 ghost use Rattle.families.specs.Masks.{bit, alone, coded, cut as cut-down};
 use domain::WIDEST;
 
@@ -69,4 +70,16 @@ pub(crate) fn below(xs: &[u8], n: u8) -> bool
         }
     }
     true
+}
+
+// The definitions that the contracts here and above cite, in plain words.
+pub fn masks_stand() -> u8
+    ensures same { λ _. ⌜ Same-law ⌝ }
+    ensures alone { λ _. ⌜ Alone-law ⌝ }
+    ensures coded { λ _. ⌜ Coded-law ⌝ }
+    ensures cut { λ _. ⌜ Cut-law ⌝ }
+    ensures meets { λ _. ⌜ Meets-law ⌝ }
+    ensures overlaps { λ _. ⌜ Overlaps-law ⌝ }
+{
+    0
 }
