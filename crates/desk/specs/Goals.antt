@@ -3,7 +3,7 @@ use mathlib.Core.List.{List, [], _∷_}
 use denote.Ref.{now}
 use Prim.Native.Nat.{ℕ}
 use Rattle.domain.specs.Variables.{Listed}
-use Rattle.families.specs.Values.{Value}
+use Rattle.rows.specs.Values.{Value}
 use Rattle.sharing.specs.Rules.{Always-apart}
 use Rattle.desk.specs.declared.clause.Goal.{Goal}
 use Rattle.desk.specs.declared.clause.Goal.the-variants.{Same, Build}

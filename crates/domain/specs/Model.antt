@@ -4,7 +4,7 @@ use mathlib.Core.List.{List}
 use Prim.Native.Nat.{ℕ, _<_, _≤_}
 use lib.ListN.{length}
 use Rattle.domain.specs.Variables.{Different, Below, widest}
-use Rattle.domain.specs.Term.{Term, Occurs, Above, term-at, pick}
+use Rattle.domain.specs.Term.{Term, Occurs, Closed, Above, term-at, pick}
 use Rattle.domain.specs.Outcomes.{Equated, Begun, Resumed}
 
 -- `Words` is what lies in a row; `read` gives the value that is read off it. Two rows are equal where they are read alike.
@@ -49,6 +49,16 @@ module _ {Words : Type 0} (m : Model Words) where
   abbrev pub Placed : List ℕ → m .Value → Type 0
   Placed args b = m .width b ≡ length args
 
+  -- ---- what the verdicts are about
+
+  -- in every list that a describes, x's term has no variable
+  abbrev pub Always-ground : m .Value → ℕ → Type 0
+  Always-ground a x = (ts : List Term) → m .Describes a ts → Closed (term-at ts x)
+
+  -- in every list that a describes, no variable occurs in both terms
+  abbrev pub Always-apart : m .Value → ℕ → ℕ → Type 0
+  Always-apart a x y = (ts : List Term) → m .Describes a ts → (u : ℕ) → Occurs u (term-at ts x) → Occurs u (term-at ts y) → ⊥
+
 -- ---- the laws
 
 pub record Lawful {Words : Type 0} (m : Model Words) : Type 0 where
@@ -85,8 +95,13 @@ pub record Lawful {Words : Type 0} (m : Model Words) : Type 0 where
   pub back-grows : (a b : m .Value) (args : List ℕ) (c d : m .Value) → Arguments m a args → Placed m args c → m .Under a b → m .Under c d → m .Under (m .backed a args c) (m .backed b args d)
   pub back-describes : (a : m .Value) (args : List ℕ) (b : m .Value) → Arguments m a args → Placed m args b → (ts rs ts′ : List Term) → m .Describes a ts → m .Describes b rs → Resumed ts args rs ts′ → m .Describes (m .backed a args b) ts′
   -- the verdicts: what a yes promises of every list described
-  pub ground-holds : (a : m .Value) (x : ℕ) → Variable m a x → m .Ground a x → (ts : List Term) → m .Describes a ts → (u : ℕ) → Occurs u (term-at ts x) → ⊥
-  pub apart-holds : (a : m .Value) (x y : ℕ) → Variable m a x → Variable m a y → m .Apart a x y → (ts : List Term) → m .Describes a ts → (u : ℕ) → Occurs u (term-at ts x) → Occurs u (term-at ts y) → ⊥
+  pub ground-holds : (a : m .Value) (x : ℕ) → Variable m a x → m .Ground a x → Always-ground m a x
+  pub apart-holds : (a : m .Value) (x y : ℕ) → Variable m a x → Variable m a y → m .Apart a x y → Always-apart m a x y
   -- rank, of what lies in rows: it rises strictly with the value
   pub rank-bound : (w : Words) → m .rank (m .read w) ≤ 65535
   pub rank-rises : (v w : Words) → m .Under (m .read v) (m .read w) → (m .read v ≡ m .read w → ⊥) → m .rank (m .read v) < m .rank (m .read w)
+
+-- The verdicts are exact, of what lies in rows: they say yes wherever every list described has the property.
+pub record Exact {Words : Type 0} (m : Model Words) : Type 0 where
+  pub ground-exact : (w : Words) (x : ℕ) → Variable m (m .read w) x → Always-ground m (m .read w) x → m .Ground (m .read w) x
+  pub apart-exact : (w : Words) (x y : ℕ) → Variable m (m .read w) x → Variable m (m .read w) y → Always-apart m (m .read w) x y → m .Apart (m .read w) x y

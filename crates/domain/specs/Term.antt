@@ -25,6 +25,10 @@ abbrev mutual
   Among u end = ⊥
   Among u (arg t ts) = Occurs u t ⊎ Among u ts
 
+-- the term has no variables
+abbrev pub Closed : Term → Type 0
+Closed t = (u : ℕ) → Occurs u t → ⊥
+
 -- the variable u occurs in some term of the list
 abbrev pub Inside : ℕ → List Term → Type 0
 Inside u [] = ⊥

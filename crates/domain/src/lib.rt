@@ -5,7 +5,7 @@ ghost use lib.Dec.{T};
 ghost use lib.ListN.{length};
 ghost use Prim.Native.Nat.{_≤_, _<_};
 ghost use Rattle.domain.specs.Variables.{widest, Below as InRange, Different};
-ghost use Rattle.domain.specs.Model.{Model, Lawful};
+ghost use Rattle.domain.specs.Model.{Model, Lawful, Exact as Exactly};
 
 mod refusal;
 
@@ -84,4 +84,9 @@ pub trait Domain: Copy {
     // A number that rises strictly with the value.
     fn rank(&self) -> u16
         ensures { λ r. ⌜ r ≡ model .rank (model .read (now (self .entry))) ⌝ };
+}
+
+// A domain whose verdicts are exact: they say yes wherever every list described has the property.
+pub trait Exact: Domain {
+    law exact: { Exactly (Self·Domain .model) };
 }

@@ -1,8 +1,8 @@
 pub mod Lists
 pub mod Tests
 pub mod Masks
+pub mod Ranges
 pub mod Counts
-pub mod Values
 pub mod Unions
 pub mod Words
 pub mod Loops

@@ -12,7 +12,7 @@ use Rattle.std.proofs.shelf.Lists.{take-more}
 use Rattle.domain.specs.Variables.{Below, widest}
 use Rattle.families.specs.Listings.{Within, Coded, Codes}
 use Rattle.families.specs.Words.{sets}
-use Rattle.families.proofs.Tests.{and-split, and-pair, or-split, or-left, or-right}
+use Rattle.domain.proofs.Booleans.{and-split, and-pair, or-split, or-left, or-right}
 use Rattle.families.proofs.Masks.{same-bits, bits-below}
 
 -- ---- within a bound

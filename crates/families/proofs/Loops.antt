@@ -14,7 +14,7 @@ use Rattle.std.proofs.shelf.Tests.{cases-eq}
 use Rattle.families.specs.Masks.{bit, cut}
 use Rattle.families.specs.Unions.{Selection, Inside, together}
 use Rattle.families.specs.Words.{sets}
-use Rattle.families.proofs.Tests.{and-split, and-pair, or-split, or-left, or-right, same-test}
+use Rattle.domain.proofs.Booleans.{and-split, and-pair, or-split, or-left, or-right, same-test}
 use Rattle.families.proofs.Masks.{same-bits, bit-or, bit-cut, bit-power, power-bit}
 use Rattle.families.proofs.Unions.{together-one, one-together, members, member-passes, passes-member}
 

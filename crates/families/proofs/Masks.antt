@@ -16,7 +16,8 @@ use Rattle.std.proofs.shelf.Bits.{shr-shr}
 use Rattle.std.proofs.shelf.Tests.{cases-eq, ltb-true, ltb-false}
 use Rattle.domain.specs.Variables.{Listed, widest}
 use Rattle.families.specs.Masks.{bit, pack, cut, meets, alone, coded}
-use Rattle.families.proofs.Tests.{and-split, and-pair, or-split, or-left, or-right, same-test, meets-some}
+use Rattle.domain.proofs.Booleans.{and-split, and-pair, or-split, or-left, or-right, same-test}
+use Rattle.families.proofs.Tests.{meets-some}
 
 -- ---- bit by bit, the lowest first
 
@@ -28,10 +29,10 @@ bit-suc g i =
     ap (λ (n : ℕ). eqb (n % 2) 1)
     (ap (λ (k : ℕ). g / 2 ^ k) (sym (one-add i)) ∙ sym (shr-shr g 1 i))
 
-odd-from-bit : (g : ℕ) → T (bit g 0) → g % 2 ≡ 1
+pub odd-from-bit : (g : ℕ) → T (bit g 0) → g % 2 ≡ 1
 odd-from-bit g t = eqb→eq (g % 2) 1 (rw bit-zero at t)
 
-bit-from-odd : (g : ℕ) → g % 2 ≡ 1 → T (bit g 0)
+pub bit-from-odd : (g : ℕ) → g % 2 ≡ 1 → T (bit g 0)
 bit-from-odd g e = rw (bit-zero, e) tt
 
 -- ---- a mask is given by its bits
@@ -59,6 +60,10 @@ same-bits =
     let down : h % 2 ≡ 1 → g % 2 ≡ 1 = λ e. odd-from-bit g (from 0 (bit-from-odd h e)) in
     ⊎-elim (λ e. let e′ = up e in omega arith) (λ n. let n′ : h % 2 ≡ 1 → ⊥ = λ e. n (down e) in omega arith)
     (cases-eq (g % 2) 1))
+
+-- the masks of one property of variables
+pub one-mask : (P : ℕ → Type 0) (g h : ℕ) → ((i : ℕ) → T (bit g i) ↔ P i) → ((i : ℕ) → T (bit h i) ↔ P i) → g ≡ h
+one-mask P g h p q = same-bits g h (λ i t. q i .1 (p i .0 t)) (λ i t. p i .1 (q i .0 t))
 
 -- the empty set meets nothing
 pub empty-misses : (ys : List ℕ) → T (meets ys 0) → ⊥

@@ -6,12 +6,14 @@ use Prim.Native.Nat.{ℕ, suc, _%_, _<_}
 use native.Mathlib.Omega.{arith}
 use lib.Arith.{bin-ind}
 use lib.Bits.{bitAnd, bitOr}
-use lib.Dec.{T, eqb, eqb→eq, T-not, not-T}
+use lib.Dec.{T, eqb, eqb→eq, eqb-refl, T-not, not-T}
 use Rattle.std.proofs.shelf.Tests.{cases-eq, cases-lt}
-use Rattle.domain.specs.Variables.{widest}
-use Rattle.families.specs.Masks.{bit, meets, overlaps, alone, coded}
+use Rattle.domain.specs.Variables.{Below, widest}
+use Rattle.families.specs.Masks.{bit, meets, covers, overlaps, alone, coded}
 use Rattle.families.specs.Words.{sets}
-use Rattle.families.proofs.Tests.{and-split, and-pair, or-split, or-left, or-right, meets-some, some-meets}
+use Rattle.domain.proofs.Booleans.{and-split, and-pair, or-split, or-left, or-right, same-test}
+use Rattle.families.proofs.Loops.{or-inside, inside-or}
+use Rattle.families.proofs.Tests.{meets-some, some-meets, covers-each, each-covers}
 use Rattle.families.proofs.Masks.{bit-zero, bit-suc, zero-bits, below-bits, bit-and, bit-or, alone-bits, coded-bits}
 
 -- a set that is not empty has a variable
@@ -68,3 +70,15 @@ module _ (g : ℕ) (low : g < sets) where
     λ t. let (i, a, b) = overlaps-bits g (coded ys) .0 t in some-meets ys g i (coded-bits ys i .0 b .0) a,
     λ t. let (y, l, b) = meets-some ys g t in overlaps-bits g (coded ys) .1 (y, b, coded-bits ys y .1 (l, variable-below g y low b)),
   )
+
+-- ---- a set that has all that is listed
+
+pub covers-coded : (ys : List ℕ) → Below widest ys → (g : ℕ) → eqb (bitOr (coded ys) g) g ≡ covers ys g
+covers-coded ys below g =
+    same-test (eqb (bitOr (coded ys) g) g) (covers ys g)
+    (λ t.
+    let inner = or-inside (coded ys) g (eqb→eq (bitOr (coded ys) g) g t) in
+    each-covers ys g (λ y l. inner y (coded-bits ys y .1 (l, below y l))))
+    (λ t.
+    let e = inside-or (coded ys) g (λ i b. covers-each ys g t i (coded-bits ys i .0 b .0)) in
+    subst (λ (k : ℕ). T (eqb k g)) (sym e) (eqb-refl g))

@@ -1,76 +1,15 @@
--- Tests as facts: `&&`, `||`, `not`, the tests of every number below a bound, and those of a set. Assumes nothing.
-use mathlib.Core.Path.{_≡_, refl, subst, sym}
-use mathlib.Core.Bool.{Bool, true, false, not, _&&_, _||_}
-use mathlib.Core.Logic.{_⊎_, inl, inr, ⊎-elim}
+-- Tests as facts: those of every number below a bound, and those of a set. Assumes nothing.
+use mathlib.Core.Path.{refl, subst, sym}
+use mathlib.Core.Bool.{Bool, not, _||_}
+use mathlib.Core.Logic.{inl, inr, ⊎-elim}
 use mathlib.Core.List.{List, [], _∷_}
 use Prim.Native.Nat.{ℕ, zero, suc, _<_}
 use native.Mathlib.Omega.{arith}
 use lib.Dec.{T}
 use Rattle.domain.specs.Variables.{Listed}
-use Rattle.families.specs.Masks.{any, all, meets, bit, within}
+use Rattle.families.specs.Masks.{any, all, meets, covers, bit, within}
 use Rattle.std.proofs.shelf.Tests.{cases-eq}
-
-pub and-split : (b c : Bool) → T (b && c) → T b × T c
-and-split true c t = (tt, t)
-and-split false c t = elim t [ ]
-
-pub and-pair : (b c : Bool) → T b → T c → T (b && c)
-and-pair true c t r = r
-and-pair false c t r = elim t [ ]
-
-pub or-split : (b c : Bool) → T (b || c) → T b ⊎ T c
-or-split true c t = inl tt
-or-split false c t = inr t
-
-pub or-left : (b c : Bool) → T b → T (b || c)
-or-left true c t = tt
-or-left false c t = elim t [ ]
-
-pub or-right : (b c : Bool) → T c → T (b || c)
-or-right true c t = tt
-or-right false c t = t
-
--- what an answer of true, or of false, says
-pub shown : (b : Bool) → true ≡ b → T b
-shown b e = subst T e tt
-
-pub denied : (b : Bool) → false ≡ b → T b → ⊥
-denied b e t = subst T (sym e) t
-
--- a part that is true, or false, drops out
-pub and-true : (b c : Bool) → c ≡ true → b ≡ (b && c)
-and-true true c e = sym e
-and-true false c e = refl
-
-pub or-false : (b c : Bool) → c ≡ false → b ≡ (b || c)
-or-false true c e = refl
-or-false false c e = sym e
-
-pub tested : (b : Bool) → T b ⊎ (T b → ⊥)
-tested true = inl tt
-tested false = inr (λ t. t)
-
-pub and-grows : (b c b′ c′ : Bool) → (T b → T b′) → (T c → T c′) → T (b && c) → T (b′ && c′)
-and-grows b c b′ c′ f g t = let (l, r) = and-split b c t in and-pair b′ c′ (f l) (g r)
-
-pub or-grows : (b c b′ c′ : Bool) → (T b → T b′) → (T c → T c′) → T (b || c) → T (b′ || c′)
-or-grows b c b′ c′ f g t = ⊎-elim (λ l. or-left b′ c′ (f l)) (λ r. or-right b′ c′ (g r)) (or-split b c t)
-
--- two tests that pass together are one
-pub same-test : (b c : Bool) → (T b → T c) → (T c → T b) → b ≡ c
-same-test true true f g = refl
-same-test true false f g = absurd (f tt)
-same-test false true f g = absurd (g tt)
-same-test false false f g = refl
-
--- a test `not b || c` is an implication
-pub implies : (b c : Bool) → T (not b || c) → T b → T c
-implies true c t r = t
-implies false c t r = elim r [ ]
-
-pub implied : (b c : Bool) → (T b → T c) → T (not b || c)
-implied true c f = f tt
-implied false c f = tt
+use Rattle.domain.proofs.Booleans.{and-split, and-pair, or-split, or-left, or-right, implies, implied}
 
 pub any-some : (n : ℕ) (p : ℕ → Bool) → T (any n p) → (k : ℕ) × (k < n) × T (p k)
 unfolding any
@@ -113,6 +52,15 @@ pub some-meets : (ys : List ℕ) (g y : ℕ) → Listed y ys → T (bit g y) →
 some-meets [] g y l h = elim l [ ]
 some-meets (z ∷ ys) g y (inl e) h = or-left (bit g z) (meets ys g) (subst (λ (j : ℕ). T (bit g j)) e h)
 some-meets (z ∷ ys) g y (inr l) h = or-right (bit g z) (meets ys g) (some-meets ys g y l h)
+
+pub covers-each : (ys : List ℕ) (g : ℕ) → T (covers ys g) → (y : ℕ) → Listed y ys → T (bit g y)
+covers-each [] g t y l = elim l [ ]
+covers-each (z ∷ ys) g t y (inl e) = subst (λ (k : ℕ). T (bit g k)) (sym e) (and-split (bit g z) (covers ys g) t .0)
+covers-each (z ∷ ys) g t y (inr l) = covers-each ys g (and-split (bit g z) (covers ys g) t .1) y l
+
+pub each-covers : (ys : List ℕ) (g : ℕ) → ((y : ℕ) → Listed y ys → T (bit g y)) → T (covers ys g)
+each-covers [] g f = tt
+each-covers (z ∷ ys) g f = and-pair (bit g z) (covers ys g) (f z (inl refl)) (each-covers ys g (λ y l. f y (inr l)))
 
 pub within-at : (n g h : ℕ) → T (within n g h) → (i : ℕ) → i < n → T (bit g i) → T (bit h i)
 unfolding within

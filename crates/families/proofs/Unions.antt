@@ -12,7 +12,8 @@ use Rattle.std.proofs.shelf.Tests.{cases-eq}
 use Rattle.domain.specs.Variables.{Listed}
 use Rattle.families.specs.Masks.{bit, meets}
 use Rattle.families.specs.Unions.{together, Selection, One}
-use Rattle.families.proofs.Tests.{or-split, or-left, or-right, meets-some, some-meets}
+use Rattle.domain.proofs.Booleans.{or-split, or-left, or-right}
+use Rattle.families.proofs.Tests.{meets-some, some-meets}
 use Rattle.families.proofs.Masks.{zero-bits, bit-or}
 
 -- ---- the variables of a union

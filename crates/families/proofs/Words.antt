@@ -17,7 +17,7 @@ use Rattle.families.specs.Masks.{bit, count}
 use Rattle.families.specs.declared.family.Family.{Family}
 use Rattle.families.specs.Words.{word, sets, lies, holds}
 use Rattle.families.proofs.Counts.{count-zero, count-alike, count-more, ones-count}
-use Rattle.families.proofs.Tests.{and-split, and-pair, or-split, or-left, or-right, or-false, same-test}
+use Rattle.domain.proofs.Booleans.{and-split, and-pair, or-split, or-left, or-right, or-false, same-test}
 use Rattle.families.proofs.Masks.{same-bits, below-bits, bit-or, bit-power, power-bit}
 
 -- ---- one word

@@ -14,6 +14,10 @@ use Rattle.families.specs.declared.family.Family.{Family}
 abbrev pub Nothing : Family → Type 0
 Nothing r = (g : ℕ) → holds r g ≡ false
 
+-- every set of variables below the largest width
+abbrev pub Everything : Family → Type 0
+Everything r = (g : ℕ) → holds r g ≡ ltb g sets
+
 -- the sets of f, and g; a set past the largest width is left out
 abbrev pub Added : Family → ℕ → Family → Type 0
 Added f g r = (h : ℕ) → holds r h ≡ (holds f h || (eqb h g && ltb g sets))

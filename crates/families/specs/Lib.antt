@@ -1,6 +1,5 @@
 pub mod Masks
 pub mod MaskLaws
-pub mod Values
 pub mod Unions
 pub mod Words
 pub mod Families

@@ -6,7 +6,7 @@ use Prim.Native.Nat.{ℕ, _<_}
 use lib.Dec.{T}
 use lib.ListN.{length, getD}
 use Rattle.domain.specs.Variables.{Listed, widest}
-use Rattle.families.specs.Masks.{bit, cut, meets, overlaps, alone, coded}
+use Rattle.families.specs.Masks.{bit, cut, meets, covers, overlaps, alone, coded, whole}
 
 -- a mask is given by its variables
 abbrev pub Same-law : Type 0
@@ -15,6 +15,10 @@ Same-law = (g h : ℕ) → ((i : ℕ) → T (bit g i) ↔ T (bit h i)) → g ≡
 -- the mask of x has x and nothing else
 abbrev pub Alone-law : Type 0
 Alone-law = (x i : ℕ) → T (bit (alone x) i) ↔ ((i ≡ x) × (i < widest))
+
+-- the mask of all variables below n has just those
+abbrev pub Whole-law : Type 0
+Whole-law = (n i : ℕ) → T (bit (whole n) i) ↔ (i < n)
 
 -- the mask of listed variables has just those
 abbrev pub Coded-law : Type 0
@@ -27,6 +31,10 @@ Cut-law = (xs : List ℕ) (g i : ℕ) → T (bit (cut xs g) i) ↔ ((i < length 
 -- a set meets listed variables where it has one of them
 abbrev pub Meets-law : Type 0
 Meets-law = (ys : List ℕ) (g : ℕ) → T (meets ys g) ↔ ((y : ℕ) × Listed y ys × T (bit g y))
+
+-- a set covers listed variables where it has each of them
+abbrev pub Covers-law : Type 0
+Covers-law = (ys : List ℕ) (g : ℕ) → T (covers ys g) ↔ ((y : ℕ) → Listed y ys → T (bit g y))
 
 -- two sets overlap where they have a variable in common
 abbrev pub Overlaps-law : Type 0

@@ -2,7 +2,7 @@
 -- a bound.
 use mathlib.Core.Bool.{Bool, true, false, not, _&&_, _||_, cond}
 use mathlib.Core.List.{List, [], _∷_, map}
-use Prim.Native.Nat.{ℕ, zero, suc, _+_, _*_, _/_, _%_, _^_}
+use Prim.Native.Nat.{ℕ, zero, suc, _+_, _-_, _*_, _/_, _%_, _^_}
 use lib.Bits.{bitAnd, bitOr}
 use lib.Dec.{eqb, ltb}
 use Rattle.domain.specs.Variables.{widest}
@@ -20,6 +20,10 @@ pack (b ∷ bs) = 2 * pack bs + cond b 1 0
 abbrev pub cut : List ℕ → ℕ → ℕ
 cut xs g = pack (map (bit g) xs)
 
+-- all variables below n
+abbrev pub whole : ℕ → ℕ
+whole n = 2 ^ n - 1
+
 -- the variable x alone; nothing where it is not below the largest width
 abbrev pub alone : ℕ → ℕ
 alone x = cond (ltb x widest) (2 ^ x) 0
@@ -33,6 +37,11 @@ coded (x ∷ xs) = bitOr (alone x) (coded xs)
 abbrev pub meets : List ℕ → ℕ → Bool
 meets [] g = false
 meets (y ∷ ys) g = bit g y || meets ys g
+
+-- every variable listed is in g
+abbrev pub covers : List ℕ → ℕ → Bool
+covers [] g = true
+covers (y ∷ ys) g = bit g y && covers ys g
 
 -- some variable is in both
 abbrev pub overlaps : ℕ → ℕ → Bool

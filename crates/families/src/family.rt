@@ -5,7 +5,7 @@ ghost use Prim.Native.Nat.{ℕ};
 ghost use lib.Dec.{T};
 ghost use lib.ListN.{take};
 ghost use Rattle.domain.specs.Variables.{widest};
-ghost use Rattle.families.specs.Families.{Nothing, Added, Either, Included, Part, Cuts, All-unions, Union-within};
+ghost use Rattle.families.specs.Families.{Nothing, Everything, Added, Either, Included, Part, Cuts, All-unions, Union-within};
 ghost use Rattle.families.specs.Masks.{count as counted};
 ghost use Rattle.families.specs.Words.{holds, sets};
 use super::mask;
@@ -36,6 +36,17 @@ impl Family {
         ensures { λ r. ⌜ Nothing r ⌝ }
     {
         Family { words: [0; WORDS] }
+    }
+
+    // Every set of variables below the largest width.
+    pub fn all() -> Family
+        ensures { λ r. ⌜ Everything r ⌝ }
+    {
+        let mut every = Family::new();
+        for set in 0..SETS {
+            every.insert(set);
+        }
+        every
     }
 
     pub fn has(&self, g: Mask) -> bool

@@ -4,9 +4,11 @@ mod family;
 mod filters;
 mod listing;
 pub mod mask;
+mod show;
 
 pub use family::Family;
 pub use family::SETS;
 pub use family::Test;
 pub use listing::Listing;
 pub use mask::Mask;
+pub use show::FamilyDisplay;

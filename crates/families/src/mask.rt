@@ -1,11 +1,11 @@
 // A set of variables as a mask: variable i is in it where bit i is 1.
 ghost use mathlib.Core.Path.{_≡_};
-ghost use Prim.Native.Nat.{ℕ, _<_};
+ghost use Prim.Native.Nat.{ℕ, _<_, min};
 ghost use lib.Dec.{T};
 ghost use lib.ListN.{length, getD, take};
-ghost use Rattle.domain.specs.Variables.{widest};
-ghost use Rattle.families.specs.MaskLaws.{Same-law, Alone-law, Coded-law, Cut-law, Meets-law, Overlaps-law};
-ghost use Rattle.families.specs.Masks.{bit, alone, coded, cut as cut-down};
+ghost use Rattle.domain.specs.Variables.{widest, Below as InRange};
+ghost use Rattle.families.specs.MaskLaws.{Same-law, Alone-law, Whole-law, Coded-law, Cut-law, Meets-law, Covers-law, Overlaps-law};
+ghost use Rattle.families.specs.Masks.{bit, alone, whole, coded, cut as cut-down};
 use domain::WIDEST;
 
 pub type Mask = usize;
@@ -25,6 +25,13 @@ pub fn only(x: u8) -> Mask
     ensures { λ r. ⌜ r ≡ alone x ⌝ }
 {
     if x < WIDEST { 1 << x } else { EMPTY }
+}
+
+// All variables below n, as far as they are below the largest width.
+pub fn all(n: u8) -> Mask
+    ensures { λ r. ⌜ r ≡ whole (min n widest) ⌝ }
+{
+    (1 << n.min(WIDEST)) - 1
 }
 
 // The variables listed, as far as they are below the largest width.
@@ -60,9 +67,9 @@ pub(crate) fn cut(g: Mask, xs: &[u8]) -> Mask
 }
 
 // Whether each variable listed is below n.
-pub(crate) fn below(xs: &[u8], n: u8) -> bool
-    ensures yes { λ r. ⌜ (T r → (k : ℕ) → k < length (now (xs .entry)) → getD (now (xs .entry)) k 0 < n) ⌝ }
-    ensures only { λ r. ⌜ (((k : ℕ) → k < length (now (xs .entry)) → getD (now (xs .entry)) k 0 < n) → T r) ⌝ }
+pub fn below(xs: &[u8], n: u8) -> bool
+    ensures yes { λ r. ⌜ (T r → InRange n (now (xs .entry))) ⌝ }
+    ensures only { λ r. ⌜ (InRange n (now (xs .entry)) → T r) ⌝ }
 {
     for x in xs {
         if *x >= n {
@@ -76,9 +83,11 @@ pub(crate) fn below(xs: &[u8], n: u8) -> bool
 pub fn masks_stand() -> u8
     ensures same { λ _. ⌜ Same-law ⌝ }
     ensures alone { λ _. ⌜ Alone-law ⌝ }
+    ensures whole { λ _. ⌜ Whole-law ⌝ }
     ensures coded { λ _. ⌜ Coded-law ⌝ }
     ensures cut { λ _. ⌜ Cut-law ⌝ }
     ensures meets { λ _. ⌜ Meets-law ⌝ }
+    ensures covers { λ _. ⌜ Covers-law ⌝ }
     ensures overlaps { λ _. ⌜ Overlaps-law ⌝ }
 {
     0

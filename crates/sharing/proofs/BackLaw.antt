@@ -10,10 +10,11 @@ use Rattle.domain.specs.Variables.{Listed}
 use Rattle.domain.specs.Term.{Term, Subst, Occurs, Inside, apply, term-at, pick}
 use Rattle.domain.specs.Outcomes.{Returns}
 use Rattle.families.specs.Masks.{cut, meets}
-use Rattle.families.specs.Values.{Value}
+use Rattle.rows.specs.Values.{Value}
 use Rattle.sharing.specs.Sharing.{Grouped, Describes, picks, union, backed, backed-has}
-use Rattle.families.proofs.Tests.{and-pair, or-left, or-right, meets-some, some-meets}
-use Rattle.sharing.proofs.Terms.{decide-inside, occurs-from, occurs-into, applied-at, picked-some, some-picked}
+use Rattle.domain.proofs.Booleans.{and-pair, or-left, or-right}
+use Rattle.families.proofs.Tests.{meets-some, some-meets}
+use Rattle.domain.proofs.Terms.{decide-inside, occurs-from, occurs-into, applied-at, picked-some, some-picked}
 use Rattle.sharing.proofs.Picks.{Places, places-held, empty-held, cut-places, some-picks, all-union}
 use Rattle.sharing.proofs.Moves.{after, after-places, after-exact, picked, united, all-move, after-held}
 

@@ -1,38 +1,21 @@
 -- Every function keeps the width's bound, and the empty group. Assumes nothing.
-use mathlib.Core.Path.{_≡_, sym, subst}
+use mathlib.Core.Path.{sym, subst}
 use mathlib.Core.Bool.{true, not, _&&_, _||_}
 use mathlib.Core.List.{List}
 use mathlib.Core.Logic.{inl, ⊎-elim}
 use Prim.Native.Nat.{ℕ, _^_, _<_, _≤_}
 use native.Mathlib.Omega.{arith}
 use lib.Dec.{T, not-T}
-use lib.ListN.{length}
-use lib.Pow.{pow-pos, pow-mono, pow-lt}
+use lib.Pow.{pow-mono, pow-lt}
 use Rattle.families.specs.Masks.{bit, cut, meets}
-use Rattle.families.specs.Values.{Value, Fits, never, joined, viewed, viewed-has}
-use Rattle.sharing.specs.Sharing.{Full, touches, picks, union, tied, tied-has, entered, backed, backed-has}
-use Rattle.families.proofs.Tests.{and-split, and-pair, or-split, or-left, or-right}
-use Rattle.families.proofs.Masks.{zero-bits, empty-misses, cut-below, cut-empty}
-use Rattle.families.proofs.Values.{viewed-some, some-viewed}
+use Rattle.rows.specs.declared.row.Core.the-variants.{Empty}
+use Rattle.rows.specs.Rows.{Cored}
+use Rattle.rows.specs.Values.{Value, Fits}
+use Rattle.sharing.specs.Sharing.{touches, picks, union, tied, tied-has, entered, backed, backed-has}
+use Rattle.domain.proofs.Booleans.{and-split, and-pair, or-split, or-left}
+use Rattle.families.proofs.Masks.{zero-bits, empty-misses}
 use Rattle.sharing.proofs.Picks.{picks-some, union-all}
 use Rattle.sharing.proofs.Rules.{entered-rule}
-
--- ---- never and join
-
-pub never-fits : (n : ℕ) → Fits (never n)
-never-fits n g t = absurd t
-
-pub never-full : (n : ℕ) → Full (never n)
-never-full n g t = t
-
-pub joined-fits : (a b : Value) → a .width ≡ b .width → Fits a → Fits b → Fits (joined a b)
-joined-fits a b same fits-a fits-b g t =
-    ⊎-elim (fits-a g) (λ r. subst (λ (n : ℕ). g < 2 ^ n) (sym same) (fits-b g r)) (or-split (a .has g) (b .has g) t)
-
-pub joined-full : (a b : Value) → Full a → Full b → Full (joined a b)
-joined-full a b full-a full-b g t =
-    ⊎-elim (λ l. or-left (a .has 0) (b .has 0) (full-a g l)) (λ r. or-right (a .has 0) (b .has 0) (full-b g r))
-    (or-split (a .has g) (b .has g) t)
 
 -- ---- tie
 
@@ -49,9 +32,9 @@ empty-untouched : (x : ℕ) (ys : List ℕ) → T (touches x ys 0) → ⊥
 unfolding touches
 empty-untouched x ys t = ⊎-elim (zero-bits x) (empty-misses ys) (or-split (bit 0 x) (meets ys 0) t)
 
-pub tied-full : (a : Value) (x : ℕ) (ys : List ℕ) → Full a → Full (tied a x ys)
+pub tied-cored : (a : Value) (x : ℕ) (ys : List ℕ) → Cored Empty a → Cored Empty (tied a x ys)
 unfolding tied-has
-tied-full a x ys full h t =
+tied-cored a x ys full h t =
     let p = touches x ys in
     let with-x = λ (k : ℕ). picks a p k (λ g. bit g x) in
     let with-ys = λ (k : ℕ). picks a p k (meets ys) in
@@ -65,28 +48,17 @@ tied-full a x ys full h t =
     (or-split (a .has h && not (p h)) (made h) t) in
     or-left (a .has 0 && not (p 0)) (made 0) (and-pair (a .has 0) (not (p 0)) empty (not-T (p 0) (empty-untouched x ys)))
 
--- ---- view
-
-pub viewed-fits : (a : Value) (xs : List ℕ) → Fits a → Fits (viewed a xs)
-viewed-fits a xs fits h t =
-    let (g, held, e) = viewed-some a xs h t in subst (λ (k : ℕ). k < 2 ^ length xs) (sym e) (cut-below xs g)
-
-pub viewed-full : (a : Value) (xs : List ℕ) → Full a → Full (viewed a xs)
-viewed-full a xs full h t =
-    let (g, held, e) = viewed-some a xs h t in
-    subst (λ (k : ℕ). T (viewed-has a xs k)) (cut-empty xs) (some-viewed a xs 0 (pow-pos (a .width)) (full g held))
-
 -- ---- enter
 
 pub entered-fits : (a : Value) (v : ℕ) → a .width ≤ v → Fits a → Fits (entered a v)
 entered-fits a v wide fits h t =
     ⊎-elim (λ k. let l = fits h k in let m : 2 ^ a .width ≤ 2 ^ v = pow-mono wide in omega arith)
     (λ k. subst (λ (j : ℕ). j < 2 ^ v) (sym (k .3)) (pow-lt (k .2)))
-    (entered-rule a v .groups h .0 t .1)
+    (entered-rule a v .sets h .0 t .1)
 
-pub entered-full : (a : Value) (v : ℕ) → Full a → Full (entered a v)
-entered-full a v full h t =
-    let empty = entered-rule a v .groups h .0 t .0 in entered-rule a v .groups 0 .1 (empty, inl empty)
+pub entered-cored : (a : Value) (v : ℕ) → Cored Empty a → Cored Empty (entered a v)
+entered-cored a v full h t =
+    let empty = entered-rule a v .sets h .0 t .0 in entered-rule a v .sets 0 .1 (empty, inl empty)
 
 -- ---- back
 
@@ -102,9 +74,9 @@ backed-fits a args b fits h t =
     (λ k. union-all a p h (and-split (union a p h) joins k .0) .below)
     (or-split kept made (and-split (b .has 0) (kept || made) t₁ .1))
 
-pub backed-full : (a : Value) (args : List ℕ) (b : Value) → Full a → Full (backed a args b)
+pub backed-cored : (a : Value) (args : List ℕ) (b : Value) → Cored Empty a → Cored Empty (backed a args b)
 unfolding backed-has
-backed-full a args b full h t =
+backed-cored a args b full h t =
     let p = meets args in
     let kept = λ (k : ℕ). a .has k && not (p k) in
     let made = λ (k : ℕ). union a p k && (picks a p k (λ g. true) && b .has (cut args k)) in

@@ -8,21 +8,23 @@ use native.Mathlib.Omega.{arith}
 use lib.Dec.{T}
 use lib.ListN.{length}
 use Rattle.std.proofs.shelf.Tests.{cases-eq, cases-lt}
+use Rattle.domain.specs.Model.{Always-ground, Always-apart}
 use Rattle.domain.specs.Term.{Term, Occurs, term-at}
 use Rattle.domain.specs.Term.Term.{var, app}
 use Rattle.domain.specs.Term.Terms.{end}
 use Rattle.families.specs.Masks.{bit}
-use Rattle.families.specs.Values.{Value, Fits}
-use Rattle.sharing.specs.Sharing.{Grouped, Describes, Ground, Apart, Full}
-use Rattle.sharing.specs.Rules.{Always-ground, Always-apart}
+use Rattle.rows.specs.declared.row.Core.the-variants.{Empty}
+use Rattle.rows.specs.Rows.{Cored}
+use Rattle.rows.specs.Values.{Value, Fits}
+use Rattle.sharing.specs.Sharing.{sharing, Grouped, Describes, Ground, Apart}
 use Rattle.families.proofs.Masks.{below-bits, zero-bits, bit-suc}
-use Rattle.sharing.proofs.Terms.{place-below}
+use Rattle.domain.proofs.Terms.{place-below}
 
-pub ground-holds : (a : Value) (x : ℕ) → Ground a x → Always-ground a x
+pub ground-holds : (a : Value) (x : ℕ) → Ground a x → Always-ground sharing a x
 ground-holds a x ground ts described u o =
     let k = described .1 u in ground (k .g) (k .held) (k .exact x .1 o)
 
-pub apart-holds : (a : Value) (x y : ℕ) → Apart a x y → Always-apart a x y
+pub apart-holds : (a : Value) (x y : ℕ) → Apart a x y → Always-apart sharing a x y
 apart-holds a x y apart ts described u o p =
     let k = described .1 u in apart (k .g) (k .held) (k .exact x .1 o) (k .exact y .1 p)
 
@@ -65,7 +67,7 @@ row-held n g i u o =
     let e = row-length n g in
     spot-held (bit g i) u (subst (λ (t : Term). Occurs u t) (row-at n g i (omega arith)) o)
 
-module _ (a : Value) (fits : Fits a) (full : Full a) (g : ℕ) (held : T (a .has g)) where
+module _ (a : Value) (fits : Fits a) (full : Cored Empty a) (g : ℕ) (held : T (a .has g)) where
   row-group : (u : ℕ) → Grouped a (row (a .width) g) u
   row-group u =
       ⊎-elim
@@ -87,13 +89,13 @@ module _ (a : Value) (fits : Fits a) (full : Full a) (g : ℕ) (held : T (a .has
   row-described : Describes a (row (a .width) g)
   row-described = (row-length (a .width) g, row-group)
 
-pub ground-exact : (a : Value) (x : ℕ) → Fits a → Full a → Ground a x ↔ Always-ground a x
+pub ground-exact : (a : Value) (x : ℕ) → Fits a → Cored Empty a → Ground a x ↔ Always-ground sharing a x
 ground-exact a x fits full = (
   ground-holds a x,
   λ none g held bit-x. none (row (a .width) g) (row-described a fits full g held) 0 (row-holds (a .width) g x (fits g held) bit-x),
 )
 
-pub apart-exact : (a : Value) (x y : ℕ) → Fits a → Full a → Apart a x y ↔ Always-apart a x y
+pub apart-exact : (a : Value) (x y : ℕ) → Fits a → Cored Empty a → Apart a x y ↔ Always-apart sharing a x y
 apart-exact a x y fits full = (
   apart-holds a x y,
   λ none g held bit-x bit-y.

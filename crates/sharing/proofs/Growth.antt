@@ -5,9 +5,9 @@ use mathlib.Core.List.{List}
 use Prim.Native.Nat.{ℕ, _^_, _<_}
 use lib.Dec.{T, eqb, leb}
 use Rattle.families.specs.Masks.{bit, cut, any, meets}
-use Rattle.families.specs.Values.{Value, Under}
+use Rattle.rows.specs.Values.{Value, Under}
 use Rattle.sharing.specs.Sharing.{touches, picks, union, tied, tied-has, entered, entered-has, backed, backed-has}
-use Rattle.families.proofs.Tests.{and-grows, or-grows}
+use Rattle.domain.proofs.Booleans.{and-grows, or-grows}
 use Rattle.sharing.proofs.Picks.{Picked, picks-some, some-picks, union-all, all-union}
 
 module _ (a b : Value) (under : Under a b) where

@@ -4,11 +4,11 @@ use mathlib.Core.Logic.{_↔_, _⊎_, inl, inr, ⊎-elim}
 use Prim.Native.Nat.{ℕ}
 use lib.Dec.{T}
 use Rattle.families.specs.Masks.{bit, cut, meets}
-use Rattle.families.specs.Values.{Value, Fits}
+use Rattle.rows.specs.Values.{Value, Fits}
 use Rattle.families.specs.Unions.{Selection}
 use Rattle.sharing.specs.Sharing.{touches, tied, backed}
 use Rattle.sharing.specs.Rules.{Touched, Passed}
-use Rattle.families.proofs.Tests.{or-split, or-left, or-right}
+use Rattle.domain.proofs.Booleans.{or-split, or-left, or-right}
 use Rattle.families.proofs.Unions.{selected-bit, selected-meets}
 use Rattle.sharing.proofs.Rules.{tied-rule, backed-rule}
 
@@ -18,9 +18,9 @@ tied-by-unions a fits x ys h = (
   λ t.
       ⊎-elim (λ k. inl (k .0, λ b. ⊎-elim (k .1) (k .2) (or-split (bit h x) (meets ys h) b)))
       (λ k. let (s, one-x, one-ys) = k in inr (s, selected-bit h s x .0 one-x, selected-meets h s ys .0 one-ys))
-      (tied-rule a fits x ys .groups h .0 t),
+      (tied-rule a fits x ys .sets h .0 t),
   λ ways.
-      tied-rule a fits x ys .groups h .1
+      tied-rule a fits x ys .sets h .1
       (⊎-elim
       (λ k. inl (k .0, λ b. k .1 (or-left (bit h x) (meets ys h) b), λ m. k .1 (or-right (bit h x) (meets ys h) m)))
       (λ k. let (s, has-x, meets-ys) = k in inr (s, selected-bit h s x .1 has-x, selected-meets h s ys .1 meets-ys))
@@ -31,7 +31,7 @@ tied-by-unions a fits x ys h = (
 pub backed-by-unions : (a : Value) → Fits a → (args : List ℕ) (b : Value) (h : ℕ) → T (backed a args b .has h) ↔ (T (a .has 0) × T (b .has 0) × ((T (a .has h) × (T (meets args h) → ⊥)) ⊎ (Selection (Passed a args) h × T (meets args h) × T (b .has (cut args h)))))
 backed-by-unions a fits args b h = (
   λ t.
-      let (empty-a, empty-b, ways) = backed-rule a fits args b .groups h .0 t in (
+      let (empty-a, empty-b, ways) = backed-rule a fits args b .sets h .0 t in (
         empty-a,
         empty-b,
         ⊎-elim inl
@@ -43,7 +43,7 @@ backed-by-unions a fits args b h = (
       ),
   λ k.
       let (empty-a, empty-b, ways) = k in
-      backed-rule a fits args b .groups h .1 (
+      backed-rule a fits args b .sets h .1 (
         empty-a,
         empty-b,
         ⊎-elim inl

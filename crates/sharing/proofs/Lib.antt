@@ -1,4 +1,3 @@
-pub mod Terms
 pub mod Picks
 pub mod Moves
 pub mod TieLaw
@@ -9,7 +8,5 @@ pub mod Rules
 pub mod Closure
 pub mod Joins
 pub mod Exactness
-pub mod Reading
 pub mod Laws
 pub mod Steps
-pub mod Made

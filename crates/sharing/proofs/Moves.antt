@@ -8,10 +8,10 @@ use lib.Dec.{T}
 use lib.ListN.{length-map}
 use Rattle.domain.specs.Term.{Term, Subst, Occurs, Inside, apply, term-at}
 use Rattle.families.specs.Masks.{bit}
-use Rattle.families.specs.Values.{Value}
+use Rattle.rows.specs.Values.{Value}
 use Rattle.sharing.specs.Sharing.{Describes}
 use Rattle.families.proofs.Masks.{no-bits}
-use Rattle.sharing.proofs.Terms.{occurs-from, occurs-into, alone-from, alone-into, applied-at, inside-at}
+use Rattle.domain.proofs.Terms.{occurs-from, occurs-into, alone-from, alone-into, applied-at, inside-at}
 use Rattle.sharing.proofs.Picks.{Places, places, places-exact, places-held, places-below, empty-held, group-below, Picked, United}
 
 -- ---- the group of u after

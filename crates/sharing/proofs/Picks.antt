@@ -12,11 +12,12 @@ use Rattle.domain.specs.Term.{Term, Occurs, term-at, pick}
 use Rattle.domain.specs.Term.Term.{app}
 use Rattle.domain.specs.Term.Terms.{end}
 use Rattle.families.specs.Masks.{bit, pack, cut, all, within}
-use Rattle.families.specs.Values.{Value}
+use Rattle.rows.specs.Values.{Value}
 use Rattle.sharing.specs.Sharing.{Describes, picks, union}
-use Rattle.families.proofs.Tests.{and-split, and-pair, implies, implied, any-some, some-any, all-each, each-all, within-at, at-within}
+use Rattle.domain.proofs.Booleans.{and-split, and-pair, implies, implied}
+use Rattle.families.proofs.Tests.{any-some, some-any, all-each, each-all, within-at, at-within}
 use Rattle.families.proofs.Masks.{same-bits, zero-bits, bits-below, bit-pack, bit-cut}
-use Rattle.sharing.proofs.Terms.{occurs, occurs-fact, fact-occurs, inside-at, place-below, some-above}
+use Rattle.domain.proofs.Terms.{occurs, occurs-fact, fact-occurs, inside-at, place-below, some-above}
 
 -- ---- the places of a variable
 

@@ -14,12 +14,13 @@ use Rattle.domain.specs.Term.{Term, Occurs, Inside, term-at, pick}
 use Rattle.domain.specs.Term.Term.{var, app}
 use Rattle.domain.specs.Term.Terms.{end}
 use Rattle.families.specs.Masks.{bit, cut, any}
-use Rattle.families.specs.Values.{Value, viewed}
+use Rattle.rows.specs.Values.{Value, viewed}
 use Rattle.sharing.specs.Sharing.{Grouped, Describes, entered, entered-has}
-use Rattle.families.proofs.Tests.{and-pair, or-left, or-right, some-any}
+use Rattle.domain.proofs.Booleans.{and-pair, or-left, or-right}
+use Rattle.families.proofs.Tests.{some-any}
 use Rattle.families.proofs.Masks.{bit-power, power-bit}
-use Rattle.families.proofs.Values.{some-viewed}
-use Rattle.sharing.proofs.Terms.{inside-at, place-below}
+use Rattle.rows.proofs.Values.{some-viewed}
+use Rattle.domain.proofs.Terms.{inside-at, place-below}
 use Rattle.sharing.proofs.Picks.{cut-places, empty-held, group-below}
 
 -- ---- view

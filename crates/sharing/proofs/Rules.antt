@@ -8,13 +8,13 @@ use lib.Dec.{T, eqb, eqb→eq, eqb-refl, leb, leb→le, le→leb, T-not, not-T}
 use Rattle.std.proofs.shelf.Tests.{cases-lt}
 use Rattle.domain.specs.Variables.{Listed}
 use Rattle.families.specs.Masks.{bit, cut, any, meets, within}
-use Rattle.families.specs.Values.{Value, Fits, viewed, viewed-has}
+use Rattle.rows.specs.Values.{Value, Fits}
 use Rattle.families.specs.Unions.{together, Selection, One}
 use Rattle.sharing.specs.Sharing.{touches, picks, union, tied, tied-has, entered, entered-has, backed, backed-has}
-use Rattle.sharing.specs.Rules.{Touched, Passed, Tie-rule, View-rule, Enter-rule, Back-rule}
-use Rattle.families.proofs.Tests.{and-split, and-pair, or-split, or-left, or-right, any-some, some-any, within-at, at-within}
+use Rattle.sharing.specs.Rules.{Touched, Passed, Tie-rule, Enter-rule, Back-rule}
+use Rattle.domain.proofs.Booleans.{and-split, and-pair, or-split, or-left, or-right}
+use Rattle.families.proofs.Tests.{any-some, some-any, within-at, at-within}
 use Rattle.families.proofs.Masks.{same-bits, below-bits}
-use Rattle.families.proofs.Values.{viewed-some, some-viewed}
 use Rattle.families.proofs.Unions.{together-one, one-together, together-below, members, member-passes, passes-member}
 use Rattle.sharing.proofs.Picks.{Picked, picks-some, some-picks, United, union-all, all-union}
 
@@ -141,18 +141,7 @@ module _ (a : Value) (fits : Fits a) (x : ℕ) (ys : List ℕ) (h : ℕ) where
       (some-picks a touching h (meets ys) (selected-picked a touching h fits s (meets ys) one-ys))))
 
 pub tied-rule : (a : Value) → Fits a → (x : ℕ) (ys : List ℕ) → Tie-rule a x ys (tied a x ys)
-tied-rule a fits x ys = record { width = refl; groups = λ h. (tied-to a fits x ys h, tied-from a fits x ys h) }
-
--- ---- view
-
-pub viewed-rule : (a : Value) → Fits a → (xs : List ℕ) → View-rule a xs (viewed a xs)
-viewed-rule a fits xs = record {
-  width = refl;
-  groups = λ h. (
-    viewed-some a xs h,
-    λ k. let (g, held, e) = k in subst (λ (j : ℕ). T (viewed-has a xs j)) (sym e) (some-viewed a xs g (fits g held) held),
-  );
-}
+tied-rule a fits x ys = record { width = refl; sets = λ h. (tied-to a fits x ys h, tied-from a fits x ys h) }
 
 -- ---- enter
 
@@ -189,7 +178,7 @@ module _ (a : Value) (v h : ℕ) where
       k)
 
 pub entered-rule : (a : Value) (v : ℕ) → Enter-rule a v (entered a v)
-entered-rule a v = record { width = refl; groups = λ h. (entered-to a v h, entered-from a v h) }
+entered-rule a v = record { width = refl; sets = λ h. (entered-to a v h, entered-from a v h) }
 
 -- ---- back
 
@@ -242,4 +231,4 @@ module _ (a : Value) (fits : Fits a) (args : List ℕ) (b : Value) (h : ℕ) whe
       ways))
 
 pub backed-rule : (a : Value) → Fits a → (args : List ℕ) (b : Value) → Back-rule a args b (backed a args b)
-backed-rule a fits args b = record { width = refl; groups = λ h. (backed-to a fits args b h, backed-from a fits args b h) }
+backed-rule a fits args b = record { width = refl; sets = λ h. (backed-to a fits args b h, backed-from a fits args b h) }

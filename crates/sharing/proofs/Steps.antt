@@ -11,12 +11,14 @@ use lib.Pow.{pow-mono}
 use Rattle.domain.specs.Variables.{widest}
 use Rattle.families.specs.Masks.{bit, cut, meets, overlaps, alone, coded}
 use Rattle.families.specs.Unions.{Selection}
-use Rattle.families.specs.Values.{Value, Fits}
+use Rattle.rows.specs.declared.row.Core.the-variants.{Empty}
+use Rattle.rows.specs.Rows.{Cored}
+use Rattle.rows.specs.Values.{Value, Fits}
 use Rattle.families.specs.Words.{sets}
-use Rattle.families.proofs.Tests.{and-split, and-pair, or-split, or-left, or-right, same-test}
+use Rattle.domain.proofs.Booleans.{and-split, and-pair, or-split, or-left, or-right, same-test}
 use Rattle.families.proofs.Overlaps.{overlaps-or, overlaps-alone, overlaps-coded}
 use Rattle.families.proofs.Unions.{selection-map, selection-below, selected-meets}
-use Rattle.sharing.specs.Sharing.{Full, touches, tied, backed}
+use Rattle.sharing.specs.Sharing.{touches, tied, backed}
 use Rattle.sharing.specs.Rules.{Passed}
 use Rattle.sharing.specs.Parts.{Untouched, Joined, Unpassed, Returned}
 use Rattle.sharing.proofs.Joins.{tied-by-unions, backed-by-unions}
@@ -154,7 +156,7 @@ module _ (a : Value) (fits : Fits a) (narrow : a .width ≤ widest) where
                 (subst T (sym (ends-is (cut args h))) viewed)),
           )
 
-      pub backed-is : Full a → T (b .has 0) → (kept returned all : ℕ → Bool) → ((h : ℕ) → T (kept h) ↔ Unpassed a args h) →
+      pub backed-is : Cored Empty a → T (b .has 0) → (kept returned all : ℕ → Bool) → ((h : ℕ) → T (kept h) ↔ Unpassed a args h) →
           ((h : ℕ) → T (returned h) ↔ Returned a args b h) →
           ((h : ℕ) → all h ≡ (kept h || returned h)) → (h : ℕ) → all h ≡ backed a args b .has h
       backed-is full ends kept returned all kept-is returned-is all-is h =

@@ -12,10 +12,11 @@ use Rattle.domain.specs.Term.{Term, Subst, Occurs, Among, Inside, Above, apply,
 use Rattle.domain.specs.Outcomes.{Unifies, Side}
 use Rattle.domain.specs.Outcomes.Side.{one, built}
 use Rattle.families.specs.Masks.{bit, meets}
-use Rattle.families.specs.Values.{Value}
+use Rattle.rows.specs.Values.{Value}
 use Rattle.sharing.specs.Sharing.{Grouped, Describes, touches, picks, union, tied, tied-has}
-use Rattle.families.proofs.Tests.{and-pair, or-split, or-left, or-right, meets-some, some-meets}
-use Rattle.sharing.proofs.Terms.{decide-occurs, occurs-from, occurs-into, picked-some, some-picked}
+use Rattle.domain.proofs.Booleans.{and-pair, or-split, or-left, or-right}
+use Rattle.families.proofs.Tests.{meets-some, some-meets}
+use Rattle.domain.proofs.Terms.{decide-occurs, occurs-from, occurs-into, picked-some, some-picked}
 use Rattle.sharing.proofs.Picks.{some-picks, all-union}
 use Rattle.sharing.proofs.Moves.{after, after-places, origin, picked, united, all-move, after-held}
 

@@ -1,5 +1,4 @@
 -- What the parts of the functions make of the groups.
-use mathlib.Core.Path.{_≡_}
 use mathlib.Core.List.{List}
 use mathlib.Core.Logic.{_↔_}
 use Prim.Native.Nat.{ℕ}
@@ -7,15 +6,10 @@ use lib.Dec.{T}
 use Rattle.families.specs.declared.family.Family.{Family}
 use Rattle.families.specs.Masks.{bit, cut, meets}
 use Rattle.families.specs.Unions.{Selection}
-use Rattle.families.specs.Values.{Value}
+use Rattle.rows.specs.Values.{Value}
 use Rattle.families.specs.Words.{holds}
-use Rattle.sharing.specs.declared.groups.Groups.{Groups}
-use Rattle.sharing.specs.Sharing.{touches, read}
+use Rattle.sharing.specs.Sharing.{touches}
 use Rattle.sharing.specs.Rules.{Touched, Passed}
-
--- the family is what is read off the row
-abbrev pub Off : Groups → Family → Type 0
-Off r f = (g : ℕ) → holds f g ≡ read r .has g
 
 -- the family has the groups with the property, and no others
 abbrev pub Just : (ℕ → Type 0) → Family → Type 0

@@ -1,24 +1,14 @@
--- The functions of sharing groups in plain words: which groups each gives, by selections of groups, and what its
--- verdicts say of the lists described.
+-- The functions of sharing groups in plain words: which groups each gives, by selections of groups.
 use mathlib.Core.Path.{_≡_}
 use mathlib.Core.Bool.{true}
 use mathlib.Core.List.{List}
-use mathlib.Core.Logic.{_↔_, _⊎_}
+use mathlib.Core.Logic.{_⊎_}
 use Prim.Native.Nat.{ℕ, _^_, _<_, _≤_}
 use lib.Dec.{T}
-use lib.ListN.{length}
-use Rattle.domain.specs.Term.{Term, Occurs, term-at}
 use Rattle.families.specs.Masks.{bit, cut, meets}
 use Rattle.families.specs.Unions.{Selection, One}
-use Rattle.families.specs.Values.{Value}
-use Rattle.sharing.specs.Sharing.{Describes, touches}
-
--- ---- which groups a function gives
-
--- r has the width n, and the group h just where `Given h`
-pub record Gives (n : ℕ) (Given : ℕ → Type 0) (r : Value) : Type 0 where
-  pub width : r .width ≡ n
-  pub groups : (h : ℕ) → T (r .has h) ↔ Given h
+use Rattle.rows.specs.Values.{Value, Gives}
+use Rattle.sharing.specs.Sharing.{touches}
 
 -- a group of a that has x or meets ys
 abbrev pub Touched : Value → ℕ → List ℕ → ℕ → Type 0
@@ -30,10 +20,6 @@ abbrev pub Tie-rule : Value → ℕ → List ℕ → Value → Type 0
 Tie-rule a x ys r = Gives (a .width) (λ h.
     (T (a .has h) × (T (bit h x) → ⊥) × (T (meets ys h) → ⊥))
     ⊎ ((s : Selection (Touched a x ys) h) × One (λ g. bit g x) (s .sets) × One (meets ys) (s .sets))) r
-
--- the cuts of the groups at the variables xs
-abbrev pub View-rule : Value → List ℕ → Value → Type 0
-View-rule a xs r = Gives (length xs) (λ h. (g : ℕ) × T (a .has g) × (h ≡ cut xs g)) r
 
 -- the groups, and each new variable alone; never stays never
 abbrev pub Enter-rule : Value → ℕ → Value → Type 0
@@ -51,13 +37,3 @@ Back-rule a args b r = Gives (a .width) (λ h.
     T (a .has 0) × T (b .has 0)
     × ((T (a .has h) × (T (meets args h) → ⊥))
     ⊎ ((s : Selection (Passed a args) h) × One (λ g. true) (s .sets) × T (b .has (cut args h))))) r
-
--- ---- what the verdicts say
-
--- in every list described, x's term has no variable
-abbrev pub Always-ground : Value → ℕ → Type 0
-Always-ground a x = (ts : List Term) → Describes a ts → (u : ℕ) → Occurs u (term-at ts x) → ⊥
-
--- in every list described, no variable occurs in both terms
-abbrev pub Always-apart : Value → ℕ → ℕ → Type 0
-Always-apart a x y = (ts : List Term) → Describes a ts → (u : ℕ) → Occurs u (term-at ts x) → Occurs u (term-at ts y) → ⊥

@@ -5,15 +5,15 @@ use mathlib.Core.Path.{_≡_}
 use mathlib.Core.Bool.{Bool, true, not, _&&_, _||_}
 use mathlib.Core.List.{List}
 use mathlib.Core.Logic.{_↔_}
-use Prim.Native.Nat.{ℕ, _^_, min}
+use Prim.Native.Nat.{ℕ, _^_}
 use lib.Dec.{T, eqb, ltb, leb}
 use lib.ListN.{length}
-use Rattle.domain.specs.Variables.{widest}
 use Rattle.domain.specs.Term.{Term, Occurs, term-at}
 use Rattle.domain.specs.Model.{Model}
 use Rattle.families.specs.Masks.{bit, cut, any, all, meets, within}
-use Rattle.families.specs.Values.{Value, Under, never, joined, viewed, rank}
-use Rattle.families.specs.Words.{holds}
+use Rattle.rows.specs.declared.row.Core.the-variants.{Empty}
+use Rattle.rows.specs.Rows.{read as read-row}
+use Rattle.rows.specs.Values.{Value, Under, never, joined, viewed, rank}
 use Rattle.sharing.specs.declared.groups.Groups.{Groups}
 
 -- ---- the lists described
@@ -84,25 +84,11 @@ Ground a x = (g : ℕ) → T (a .has g) → T (bit g x) → ⊥
 abbrev pub Apart : Value → ℕ → ℕ → Type 0
 Apart a x y = (g : ℕ) → T (a .has g) → T (bit g x) → T (bit g y) → ⊥
 
--- ---- what is read off a row
+-- ---- the model of the interface
 
--- the empty group is there if any is
-abbrev pub Full : Value → Type 0
-Full a = (g : ℕ) → T (a .has g) → T (a .has 0)
-
--- a width past the largest reads as the largest
-abbrev pub read-width : Groups → ℕ
-read-width r = min (r .width) widest
-
--- a group past the width is not read, and none at all where the empty one is missing
-unfoldable pub read-has : Groups → ℕ → Bool
-read-has r g = ltb g (2 ^ read-width r) && (holds (r .map) 0 && holds (r .map) g)
-
--- Whatever words are stored, this is a lawful value.
+-- Whatever words are stored, this is a lawful value: never, where the empty group is missing.
 abbrev pub read : Groups → Value
-read r = record { width = read-width r; has = read-has r }
-
--- ---- the model
+read r = read-row Empty (r .row)
 
 abbrev pub sharing : Model Groups
 sharing = record {

@@ -1,9 +1,8 @@
 // A value of sharing groups as it lies in a row: 40 bytes at most. It has no invariant: whatever lies there, a lawful
 // value is read off it.
-use families::Family;
+use rows::Row;
 
 #[derive(Clone, Copy)]
 pub struct Groups {
-    pub(crate) width: u8,
-    pub(crate) map: Family,
+    pub(crate) row: Row,
 }

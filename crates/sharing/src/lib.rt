@@ -8,6 +8,7 @@ mod show;
 
 pub use groups::Groups;
 pub use sharing::SharingDomain;
+pub use sharing::SharingExact;
 pub use show::GroupsDisplay;
 
 #[cfg(test)]

@@ -4,40 +4,29 @@ ghost use mathlib.Core.Bool.{_&&_, _||_};
 ghost use Prim.Native.Nat.{ℕ, _^_, _≤_};
 ghost use lib.Dec.{T, eqb, leb};
 ghost use lib.ListN.{take};
+ghost use Rattle.domain.specs.Model.{Always-ground, Always-apart};
 ghost use Rattle.domain.specs.Variables.{widest};
 ghost use Rattle.families.specs.Masks.{any};
-ghost use Rattle.families.specs.Values.{never as none, joined as both, viewed as the-view, rank as size};
 ghost use Rattle.families.specs.Words.{holds};
-ghost use Rattle.sharing.specs.Sharing.{read, read-width, tied as the-tie, entered as the-entry, backed as the-return, Ground, Apart};
-ghost use Rattle.sharing.specs.Rules.{Tie-rule, View-rule, Enter-rule, Back-rule, Always-ground, Always-apart};
-ghost use Rattle.sharing.specs.Parts.{Off, Just, Untouched, Joined, Unpassed, Returned};
+ghost use Rattle.rows.specs.declared.row.Core.the-variants.{Empty};
+ghost use Rattle.rows.specs.Rows.{Off};
+ghost use Rattle.sharing.specs.Sharing.{sharing as the-model, read, tied as the-tie, entered as the-entry, backed as the-return, Ground, Apart};
+ghost use Rattle.sharing.specs.Rules.{Tie-rule, Enter-rule, Back-rule};
+ghost use Rattle.sharing.specs.Parts.{Just, Untouched, Joined, Unpassed, Returned};
 use super::groups::Groups;
 use super::sharing::SharingDomain;
 use domain::Domain;
 use families::Family;
 use families::mask;
-
-// The value without groups.
-pub(crate) fn empty(width: u8) -> Groups
-    requires { ⌜ width ≤ widest ⌝ }
-    ensures { λ r. ⌜ read r ≡ none width ⌝ }
-{
-    Groups {
-        width,
-        map: Family::new(),
-    }
-}
+use rows::Core;
+use rows::Row;
 
 impl Groups {
     // The groups that are read off the words: none past the width, and none at all where the empty one is missing.
     pub(crate) fn groups(&self) -> Family
-        ensures { λ r. ⌜ Off (now (self .entry)) r ⌝ }
+        ensures { λ r. ⌜ Off Empty (now (self .entry) .row) r ⌝ }
     {
-        if self.map.has(mask::EMPTY) {
-            self.map.narrowed(self.width())
-        } else {
-            Family::new()
-        }
+        self.row.sets(Core::Empty)
     }
 
     // Whether there is a group at all.
@@ -46,17 +35,6 @@ impl Groups {
         ensures only { λ r. ⌜ (T (read (now (self .entry)) .has 0) → T r) ⌝ }
     {
         self.groups().has(mask::EMPTY)
-    }
-
-    pub(crate) fn united(&self, other: &Groups) -> Groups
-        requires { ⌜ read-width (now self) ≡ read-width (now other) ⌝ }
-        ensures { λ r. ⌜ read r ≡ both (read (now (self .entry))) (read (now (other .entry))) ⌝ }
-    {
-        let map = self.groups().union(&other.groups());
-        Groups {
-            width: self.width(),
-            map,
-        }
     }
 
     // The groups that an equation leaves alone.
@@ -83,25 +61,15 @@ impl Groups {
         ensures rule { λ r. ⌜ Tie-rule (read (now (self .entry))) x (now (ys .entry)) (read r) ⌝ }
     {
         Groups {
-            width: self.width(),
-            map: kept.union(joined),
-        }
-    }
-
-    pub(crate) fn viewed(&self, groups: &Family, xs: &[u8]) -> Groups
-        requires { ⌜ Off (now self) (now groups) ⌝ }
-        ensures reads { λ r. ⌜ read r ≡ the-view (read (now (self .entry))) (take widest (now (xs .entry))) ⌝ }
-        ensures rule { λ r. ⌜ View-rule (read (now (self .entry))) (take widest (now (xs .entry))) (read r) ⌝ }
-    {
-        let width = mask::first(xs).len() as u8;
-        Groups {
-            width,
-            map: groups.view(xs),
+            row: Row {
+                width: self.width(),
+                map: kept.union(joined),
+            },
         }
     }
 
     pub(crate) fn entered(&self, v: u8) -> Groups
-        requires { ⌜ read-width (now self) ≤ v ⌝ ∗ ⌜ v ≤ widest ⌝ }
+        requires { ⌜ read (now self) .width ≤ v ⌝ ∗ ⌜ v ≤ widest ⌝ }
         ensures reads { λ r. ⌜ read r ≡ the-entry (read (now (self .entry))) v ⌝ }
         ensures rule { λ r. ⌜ Enter-rule (read (now (self .entry))) v (read r) ⌝ }
     {
@@ -111,7 +79,9 @@ impl Groups {
         } else {
             groups
         };
-        Groups { width: v, map }
+        Groups {
+            row: Row { width: v, map },
+        }
     }
 
     // The groups that a call leaves alone.
@@ -144,8 +114,10 @@ impl Groups {
         ensures rule { λ r. ⌜ Back-rule (read (now (self .entry))) (take widest (now (args .entry))) (read (now (end .entry))) (read r) ⌝ }
     {
         Groups {
-            width: self.width(),
-            map: kept.union(returned),
+            row: Row {
+                width: self.width(),
+                map: kept.union(returned),
+            },
         }
     }
 
@@ -155,39 +127,34 @@ impl Groups {
         ensures reads { λ r. ⌜ read r ≡ the-return (read (now (self .entry))) (take widest (now (args .entry))) (read (now (end .entry))) ⌝ }
         ensures rule { λ r. ⌜ Back-rule (read (now (self .entry))) (take widest (now (args .entry))) (read (now (end .entry))) (read r) ⌝ }
     {
-        empty(self.width())
+        Groups {
+            row: Row::never(self.width(), Core::Empty),
+        }
     }
 
     // Whether no group has x.
     pub(crate) fn none_has(&self, groups: &Family, x: u8) -> bool
-        requires { ⌜ Off (now self) (now groups) ⌝ }
+        requires { ⌜ Off Empty (now self .row) (now groups) ⌝ }
         ensures yes { λ r. ⌜ (T r → Ground (read (now (self .entry))) x) ⌝ }
         ensures only { λ r. ⌜ (Ground (read (now (self .entry))) x → T r) ⌝ }
-        ensures always { λ r. ⌜ (T r → Always-ground (read (now (self .entry))) x) ⌝ }
-        ensures exact { λ r. ⌜ (Always-ground (read (now (self .entry))) x → T r) ⌝ }
+        ensures always { λ r. ⌜ (T r → Always-ground the-model (read (now (self .entry))) x) ⌝ }
+        ensures exact { λ r. ⌜ (Always-ground the-model (read (now (self .entry))) x → T r) ⌝ }
     {
         groups.meeting(mask::only(x)).is_empty()
     }
 
     // Whether no group has both.
     pub(crate) fn none_has_both(&self, groups: &Family, x: u8, y: u8) -> bool
-        requires { ⌜ Off (now self) (now groups) ⌝ }
+        requires { ⌜ Off Empty (now self .row) (now groups) ⌝ }
         ensures yes { λ r. ⌜ (T r → Apart (read (now (self .entry))) x y) ⌝ }
         ensures only { λ r. ⌜ (Apart (read (now (self .entry))) x y → T r) ⌝ }
-        ensures always { λ r. ⌜ (T r → Always-apart (read (now (self .entry))) x y) ⌝ }
-        ensures exact { λ r. ⌜ (Always-apart (read (now (self .entry))) x y → T r) ⌝ }
+        ensures always { λ r. ⌜ (T r → Always-apart the-model (read (now (self .entry))) x y) ⌝ }
+        ensures exact { λ r. ⌜ (Always-apart the-model (read (now (self .entry))) x y → T r) ⌝ }
     {
         groups
             .meeting(mask::only(x))
             .meeting(mask::only(y))
             .is_empty()
-    }
-
-    pub(crate) fn counted(&self, groups: &Family) -> u16
-        requires { ⌜ Off (now self) (now groups) ⌝ }
-        ensures { λ r. ⌜ r ≡ size (read (now (self .entry))) ⌝ }
-    {
-        groups.count()
     }
 }
 

@@ -4,46 +4,49 @@ ghost use Prim.Native.Nat.{min, max};
 ghost use lib.Dec.{T};
 ghost use lib.ListN.{take};
 ghost use Rattle.domain.specs.Variables.{widest};
-ghost use Rattle.families.specs.Values.{Under, never as none, joined, viewed, rank as size};
-ghost use Rattle.sharing.specs.Sharing.{sharing as the-model, read, read-width, tied, entered, backed, Ground, Apart};
-ghost use Rattle.sharing.specs.Rules.{Tie-rule, View-rule, Enter-rule, Back-rule, Always-ground, Always-apart};
+ghost use Rattle.domain.specs.Model.{Always-ground, Always-apart};
+ghost use Rattle.rows.specs.Values.{Under, never as none, joined, viewed, rank as size, View-rule};
+ghost use Rattle.sharing.specs.Sharing.{sharing as the-model, read, tied, entered, backed, Ground, Apart};
+ghost use Rattle.sharing.specs.Rules.{Tie-rule, Enter-rule, Back-rule};
 use super::groups::Groups;
-use super::parts;
 use domain::Domain;
+use domain::Exact;
 use domain::WIDEST;
+use rows::Core;
+use rows::Row;
 
 pub impl Domain for Groups as SharingDomain {
     ghost model = { the-model };
 
     fn width(&self) -> u8
-        ensures { λ r. ⌜ r ≡ read-width (now (self .entry)) ⌝ }
+        ensures { λ r. ⌜ r ≡ read (now (self .entry)) .width ⌝ }
     {
-        self.width.min(WIDEST)
+        self.row.width()
     }
 
     // A width past the largest gives the largest.
     fn never(n: u8) -> Groups
         ensures { λ r. ⌜ read r ≡ none (min n widest) ⌝ }
     {
-        parts::empty(n.min(WIDEST))
+        Groups {
+            row: Row::never(n, Core::Empty),
+        }
     }
 
     fn below(&self, other: &Groups) -> bool
         ensures yes { λ r. ⌜ (T r → Under (read (now (self .entry))) (read (now (other .entry)))) ⌝ }
         ensures only { λ r. ⌜ (Under (read (now (self .entry))) (read (now (other .entry))) → T r) ⌝ }
     {
-        self.width() == other.width() && self.groups().within(&other.groups())
+        self.row.below(&other.row, Core::Empty)
     }
 
     // A value of another width adds nothing.
     fn join(&self, other: &Groups) -> Groups
-        ensures same { λ r. ⌜ (read-width (now (self .entry)) ≡ read-width (now (other .entry)) → read r ≡ joined (read (now (self .entry))) (read (now (other .entry)))) ⌝ }
-        ensures differ { λ r. ⌜ ((read-width (now (self .entry)) ≡ read-width (now (other .entry)) → ⊥) → r ≡ now (self .entry)) ⌝ }
+        ensures same { λ r. ⌜ (read (now (self .entry)) .width ≡ read (now (other .entry)) .width → read r ≡ joined (read (now (self .entry))) (read (now (other .entry)))) ⌝ }
+        ensures differ { λ r. ⌜ ((read (now (self .entry)) .width ≡ read (now (other .entry)) .width → ⊥) → r ≡ now (self .entry)) ⌝ }
     {
-        if self.width() == other.width() {
-            self.united(other)
-        } else {
-            *self
+        Groups {
+            row: self.row.join(&other.row, Core::Empty),
         }
     }
 
@@ -62,13 +65,15 @@ pub impl Domain for Groups as SharingDomain {
         ensures reads { λ r. ⌜ read r ≡ viewed (read (now (self .entry))) (take widest (now (xs .entry))) ⌝ }
         ensures rule { λ r. ⌜ View-rule (read (now (self .entry))) (take widest (now (xs .entry))) (read r) ⌝ }
     {
-        self.viewed(&self.groups(), xs)
+        Groups {
+            row: self.row.view(xs, Core::Empty),
+        }
     }
 
     // A width below the value's own leaves it as it is, and one past the largest gives the largest.
     fn enter(&self, v: u8) -> Groups
-        ensures reads { λ r. ⌜ read r ≡ entered (read (now (self .entry))) (max (read-width (now (self .entry))) (min v widest)) ⌝ }
-        ensures rule { λ r. ⌜ Enter-rule (read (now (self .entry))) (max (read-width (now (self .entry))) (min v widest)) (read r) ⌝ }
+        ensures reads { λ r. ⌜ read r ≡ entered (read (now (self .entry))) (max (read (now (self .entry)) .width) (min v widest)) ⌝ }
+        ensures rule { λ r. ⌜ Enter-rule (read (now (self .entry))) (max (read (now (self .entry)) .width) (min v widest)) (read r) ⌝ }
     {
         self.entered(self.width().max(v.min(WIDEST)))
     }
@@ -89,8 +94,8 @@ pub impl Domain for Groups as SharingDomain {
     fn ground(&self, x: u8) -> bool
         ensures yes { λ r. ⌜ (T r → Ground (read (now (self .entry))) x) ⌝ }
         ensures only { λ r. ⌜ (Ground (read (now (self .entry))) x → T r) ⌝ }
-        ensures always { λ r. ⌜ (T r → Always-ground (read (now (self .entry))) x) ⌝ }
-        ensures exact { λ r. ⌜ (Always-ground (read (now (self .entry))) x → T r) ⌝ }
+        ensures always { λ r. ⌜ (T r → Always-ground the-model (read (now (self .entry))) x) ⌝ }
+        ensures exact { λ r. ⌜ (Always-ground the-model (read (now (self .entry))) x → T r) ⌝ }
     {
         self.none_has(&self.groups(), x)
     }
@@ -98,8 +103,8 @@ pub impl Domain for Groups as SharingDomain {
     fn apart(&self, x: u8, y: u8) -> bool
         ensures yes { λ r. ⌜ (T r → Apart (read (now (self .entry))) x y) ⌝ }
         ensures only { λ r. ⌜ (Apart (read (now (self .entry))) x y → T r) ⌝ }
-        ensures always { λ r. ⌜ (T r → Always-apart (read (now (self .entry))) x y) ⌝ }
-        ensures exact { λ r. ⌜ (Always-apart (read (now (self .entry))) x y → T r) ⌝ }
+        ensures always { λ r. ⌜ (T r → Always-apart the-model (read (now (self .entry))) x y) ⌝ }
+        ensures exact { λ r. ⌜ (Always-apart the-model (read (now (self .entry))) x y → T r) ⌝ }
     {
         self.none_has_both(&self.groups(), x, y)
     }
@@ -108,6 +113,8 @@ pub impl Domain for Groups as SharingDomain {
     fn rank(&self) -> u16
         ensures { λ r. ⌜ r ≡ size (read (now (self .entry))) ⌝ }
     {
-        self.counted(&self.groups())
+        self.row.rank(Core::Empty)
     }
 }
+
+pub impl Exact for Groups as SharingExact {}

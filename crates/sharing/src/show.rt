@@ -1,41 +1,11 @@
-// Values in print: {e,0,12} has the empty group, that of variable 0 alone, and that of variables 1 and 2.
+// Values in print: the groups that are read off the words.
 use super::groups::Groups;
-use domain::WIDEST;
-use families::Mask;
-use families::SETS;
-use families::mask;
+use families::FamilyDisplay;
 use std::fmt;
 
 pub impl fmt::Display for Groups as GroupsDisplay {
     fn fmt<W: fmt::Write>(&self, f: &mut fmt::Formatter<W>) -> fmt::Result {
         let groups = self.groups();
-        if groups.is_empty() {
-            return f.write_str("never");
-        }
-        f.write_str("{")?;
-        let mut first = true;
-        for g in 0..SETS {
-            if groups.has(g) {
-                if !first {
-                    f.write_str(",")?;
-                }
-                first = false;
-                show_set(g, f)?;
-            }
-        }
-        f.write_str("}")
+        write!(f, "{groups}")
     }
-}
-
-// The variables of a set by their numbers, in rising order.
-fn show_set<W: fmt::Write>(g: Mask, f: &mut fmt::Formatter<W>) -> fmt::Result {
-    if g == mask::EMPTY {
-        return f.write_str("e");
-    }
-    for x in 0..WIDEST {
-        if mask::contains(g, x) {
-            write!(f, "{x}")?;
-        }
-    }
-    Ok(())
 }

@@ -9,6 +9,7 @@ use domain::RefusalDebug;
 use families::Family;
 use families::Listing;
 use families::mask;
+use rows::Row;
 use std::mem::size_of;
 use std::test::*;
 
@@ -29,6 +30,13 @@ fn value(width: u8, sets: &[&[u8]]) -> Result<Groups, Refusal> {
     let mut place = Groups::never(0);
     Groups::make(width, Listing::Sets(sets), &mut place)?;
     Ok(place)
+}
+
+// Whatever words.
+fn groups(width: u8, map: Family) -> Groups {
+    Groups {
+        row: Row { width, map },
+    }
 }
 
 #[test]
@@ -73,14 +81,14 @@ fn any_words_read_as_a_value(rt: LibcRuntime) -> Result<(), Fail> {
     let mut map = Family::new();
     map.insert(0b0100);
     map.insert(0b1001);
-    let headless = Groups { width: 2, map };
+    let headless = groups(2, map);
     shows(&rt, &headless, "never")?;
     check_eq(headless.rank(), 0)?;
     check(headless.below(&Groups::never(2)))?;
     map.insert(mask::EMPTY);
-    let long = Groups { width: 3, map };
+    let long = groups(3, map);
     shows(&rt, &long, "{e,2}")?;
-    let boundless = Groups { width: 200, map };
+    let boundless = groups(200, map);
     check_eq(boundless.width(), 8)?;
     shows(&rt, &boundless, "{e,2,03}")
 }

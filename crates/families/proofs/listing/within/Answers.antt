@@ -4,7 +4,6 @@ use denote.Ref.{RefT, now}
 use Prim.Native.Nat.{ℕ}
 use Rattle.std.proofs.shelf.Lists.{take-all}
 use Rattle.families.specs.Listings.{Within}
-use Rattle.families.proofs.Lists.{below-each, each-below}
 use Rattle.families.proofs.Listings.{within-more, within-at}
 use Rattle.families.proofs.listing.within.Needs as need
 
@@ -13,13 +12,13 @@ returns-then-not-below c = record {
   yes = λ t. absurd t;
   only = λ all.
       c .if-not-below .ensures tt .only
-      (below-each _ (c .args .n) (within-at (c .args .n) (c .loop-set .set-index) (c .args .sets .now) _ (c .loop-set-test .taken) all));
+      (within-at (c .args .n) (c .loop-set .set-index) (c .args .sets .now) _ (c .loop-set-test .taken) all);
 }
 
 pub loop-set-again : need.loop-set-again
 loop-set-again c =
     within-more (c .args .n) (c .loop-set .set-index) (c .args .sets .now) _ (c .loop-set-test .taken) (c .loop-set .inv)
-    (each-below _ (c .args .n) (c .if-not-below .ensures tt .yes tt))
+    (c .if-not-below .ensures tt .yes tt)
 
 pub returns : need.returns
 returns c = record {

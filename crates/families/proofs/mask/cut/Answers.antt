@@ -8,7 +8,7 @@ use Rattle.std.proofs.shelf.Bits.{one-shl}
 use Rattle.std.proofs.shelf.Lists.{length-take}
 use Rattle.domain.specs.Variables.{widest}
 use Rattle.families.specs.Masks.{bit}
-use Rattle.families.proofs.Tests.{shown, denied}
+use Rattle.domain.proofs.Booleans.{shown, denied}
 use Rattle.families.proofs.Loops.{cut-in, cut-out}
 use Rattle.families.proofs.mask.cut.Needs as need
 use Rattle.families.proofs.mask.cut.Needs.{then-contains, else-contains}

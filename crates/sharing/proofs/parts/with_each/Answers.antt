@@ -10,7 +10,8 @@ use Rattle.std.proofs.shelf.Tests.{lt-ltb, cond-true}
 use Rattle.domain.specs.Variables.{widest}
 use Rattle.families.specs.Masks.{any}
 use Rattle.families.specs.Words.{holds, sets}
-use Rattle.families.proofs.Tests.{and-split, and-pair, or-split, or-left, or-right, or-false, any-some, same-test}
+use Rattle.domain.proofs.Booleans.{and-split, and-pair, or-split, or-left, or-right, or-false, same-test}
+use Rattle.families.proofs.Tests.{any-some}
 use Rattle.sharing.proofs.parts.with_each.Needs as need
 
 pub loop-i-holds : need.loop-i-holds

@@ -4,7 +4,7 @@ use Prim.Native.Nat.{ℕ, _+_}
 use lib.Dec.{ltb}
 use Rattle.families.specs.declared.family.Family.{Family}
 use Rattle.families.specs.Words.{holds}
-use Rattle.families.proofs.Tests.{and-split, and-pair, shown, denied}
+use Rattle.domain.proofs.Booleans.{and-split, and-pair, shown, denied}
 use Rattle.families.proofs.Loops.{filter-in, filter-out, filter-end}
 use Rattle.families.proofs.Words.{holds-low}
 use Rattle.families.proofs.family.Family.filtered.Needs as need

@@ -7,7 +7,7 @@ use lib.ListN.{length}
 use Rattle.std.proofs.shelf.Tests.{lt-ltb, ne-eqb, and-left}
 use Rattle.families.specs.Words.{word, sets, holds}
 use Rattle.families.proofs.Words.{by-words, holds-lies, holds-past, lies-put}
-use Rattle.families.proofs.Tests.{and-true}
+use Rattle.domain.proofs.Booleans.{and-true}
 use Rattle.families.proofs.family.Family.insert.Needs as need
 
 pub returns-then-g-room : need.returns-then-g-room

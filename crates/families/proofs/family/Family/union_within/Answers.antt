@@ -7,7 +7,7 @@ use lib.Dec.{T}
 use Rattle.families.specs.declared.family.Family.{Family}
 use Rattle.families.specs.Masks.{bit}
 use Rattle.families.specs.Words.{holds, sets}
-use Rattle.families.proofs.Tests.{shown, denied}
+use Rattle.domain.proofs.Booleans.{shown, denied}
 use Rattle.families.proofs.Masks.{zero-bits}
 use Rattle.families.proofs.Loops.{Covered, cover-in, cover-out, or-inside, inside-or}
 use Rattle.families.proofs.Words.{holds-low}

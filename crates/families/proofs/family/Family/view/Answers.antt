@@ -12,7 +12,7 @@ use Rattle.domain.specs.Variables.{widest}
 use Rattle.families.specs.declared.family.Family.{Family}
 use Rattle.families.specs.Masks.{cut}
 use Rattle.families.specs.Words.{holds, sets}
-use Rattle.families.proofs.Tests.{shown, denied}
+use Rattle.domain.proofs.Booleans.{shown, denied}
 use Rattle.families.proofs.Masks.{cut-below}
 use Rattle.families.proofs.Loops.{image-in, image-out}
 use Rattle.families.proofs.Words.{holds-low}

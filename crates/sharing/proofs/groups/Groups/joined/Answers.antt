@@ -4,8 +4,9 @@ use Prim.Native.Nat.{ℕ}
 use lib.Bits.{bitOr}
 use Rattle.families.specs.Masks.{overlaps}
 use Rattle.families.specs.Words.{holds}
+use Rattle.rows.specs.declared.row.Core.the-variants.{Empty}
 use Rattle.sharing.specs.Sharing.{read}
-use Rattle.sharing.proofs.Reading.{read-narrow, read-fits}
+use Rattle.rows.proofs.Reading.{read-narrow, read-fits}
 use Rattle.sharing.proofs.Steps.{joined-is}
 use Rattle.sharing.proofs.groups.Groups.joined.Needs as need
 
@@ -19,7 +20,7 @@ returns c =
     let with-ys = holds (c .meeting-3 .result) in
     let left = c .only-left .ensures in
     let right = c .of-right .ensures in
-    joined-is (read v) (read-fits v) (read-narrow v) (c .args .x) (c .args .ys .now) groups some unions with-x with-ys (c .groups .ensures)
+    joined-is (read v) (read-fits Empty (v .row)) (read-narrow (v .row)) (c .args .x) (c .args .ys .now) groups some unions with-x with-ys (c .groups .ensures)
     (subst (λ (m : ℕ). (g : ℕ) → some g ≡ (groups g && overlaps g m)) (ap₂ bitOr left right) (c .meeting .ensures))
     (c .unions-unions .ensures)
     (subst (λ (m : ℕ). (h : ℕ) → with-x h ≡ (unions h && overlaps h m)) left (c .meeting-2 .ensures))

@@ -5,11 +5,12 @@ use lib.Dec.{T}
 use Rattle.families.specs.Masks.{overlaps, alone}
 use Rattle.families.specs.Words.{holds}
 use Rattle.families.proofs.Overlaps.{overlaps-alone}
-use Rattle.families.proofs.Tests.{and-split, and-pair, same-test}
+use Rattle.domain.proofs.Booleans.{and-split, and-pair, same-test}
 use Rattle.families.proofs.Words.{holds-low}
+use Rattle.rows.specs.declared.row.Core.the-variants.{Empty}
 use Rattle.sharing.specs.Sharing.{read, Ground}
 use Rattle.sharing.proofs.Exactness.{ground-exact}
-use Rattle.sharing.proofs.Reading.{read-fits, read-full}
+use Rattle.rows.proofs.Reading.{read-fits, read-cored}
 use Rattle.sharing.proofs.groups.Groups.none_has.Needs as need
 
 pub returns : need.returns
@@ -21,7 +22,7 @@ returns c =
     let some = holds (c .meeting .result) in
     let some-is : (g : ℕ) → some g ≡ (holds f g && overlaps g (alone x)) =
     subst (λ (m : ℕ). (g : ℕ) → some g ≡ (holds f g && overlaps g m)) (c .only .ensures) (c .meeting .ensures) in
-    let exact = ground-exact a x (read-fits v) (read-full v) in
+    let exact = ground-exact a x (read-fits Empty (v .row)) (read-cored Empty (v .row)) in
     let yes : T (c .is-empty .result) → Ground a x = λ t g held has-x.
     let here : T (holds f g) = subst T (sym (c .pre g)) held in
     subst T (c .is-empty .ensures .yes t g)

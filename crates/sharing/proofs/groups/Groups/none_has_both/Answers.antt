@@ -5,11 +5,12 @@ use lib.Dec.{T}
 use Rattle.families.specs.Masks.{overlaps, alone}
 use Rattle.families.specs.Words.{holds}
 use Rattle.families.proofs.Overlaps.{overlaps-alone}
-use Rattle.families.proofs.Tests.{and-split, and-pair, same-test}
+use Rattle.domain.proofs.Booleans.{and-split, and-pair, same-test}
 use Rattle.families.proofs.Words.{holds-low}
+use Rattle.rows.specs.declared.row.Core.the-variants.{Empty}
 use Rattle.sharing.specs.Sharing.{read, Apart}
 use Rattle.sharing.proofs.Exactness.{apart-exact}
-use Rattle.sharing.proofs.Reading.{read-fits, read-full}
+use Rattle.rows.proofs.Reading.{read-fits, read-cored}
 use Rattle.sharing.proofs.groups.Groups.none_has_both.Needs as need
 
 pub returns : need.returns
@@ -25,7 +26,7 @@ returns c =
     let both = holds (c .meeting-2 .result) in
     let both-is : (g : ℕ) → both g ≡ (some g && overlaps g (alone y)) =
     subst (λ (m : ℕ). (g : ℕ) → both g ≡ (some g && overlaps g m)) (c .only-2 .ensures) (c .meeting-2 .ensures) in
-    let exact = apart-exact a x y (read-fits v) (read-full v) in
+    let exact = apart-exact a x y (read-fits Empty (v .row)) (read-cored Empty (v .row)) in
     let yes : T (c .is-empty .result) → Apart a x y = λ t g held has-x has-y.
     let here : T (holds f g) = subst T (sym (c .pre g)) held in
     let low = holds-low f g here in

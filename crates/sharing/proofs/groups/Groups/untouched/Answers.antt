@@ -4,8 +4,9 @@ use Prim.Native.Nat.{ℕ}
 use lib.Bits.{bitOr}
 use Rattle.families.specs.Masks.{overlaps}
 use Rattle.families.specs.Words.{holds}
+use Rattle.rows.specs.declared.row.Core.the-variants.{Empty}
 use Rattle.sharing.specs.Sharing.{read}
-use Rattle.sharing.proofs.Reading.{read-narrow, read-fits}
+use Rattle.rows.proofs.Reading.{read-narrow, read-fits}
 use Rattle.sharing.proofs.Steps.{untouched-is}
 use Rattle.sharing.proofs.groups.Groups.untouched.Needs as need
 
@@ -14,5 +15,5 @@ returns c =
     let v = c .args .self .now in
     let groups = holds (c .groups .result) in
     let kept = holds (c .missing .result) in
-    untouched-is (read v) (read-fits v) (read-narrow v) (c .args .x) (c .args .ys .now) groups kept (c .groups .ensures)
+    untouched-is (read v) (read-fits Empty (v .row)) (read-narrow (v .row)) (c .args .x) (c .args .ys .now) groups kept (c .groups .ensures)
     (subst (λ (m : ℕ). (h : ℕ) → kept h ≡ (groups h && not (overlaps h m))) (ap₂ bitOr (c .only .ensures) (c .of .ensures)) (c .missing .ensures))

@@ -5,12 +5,12 @@ use native.Mathlib.Omega.{arith}
 use lib.ListN.{take}
 use Rattle.std.proofs.shelf.Lists.{take-all}
 use Rattle.domain.specs.Variables.{widest, Below, Different}
-use Rattle.families.specs.Values.{viewed}
+use Rattle.rows.specs.Values.{viewed}
 use Rattle.families.proofs.Lists.{different-few}
 use Rattle.sharing.specs.declared.groups.Groups.{Groups}
 use Rattle.sharing.specs.Sharing.{read, backed}
 use Rattle.sharing.proofs.Laws.{lawful}
-use Rattle.sharing.proofs.Reading.{read-narrow}
+use Rattle.rows.proofs.Reading.{read-narrow}
 use Rattle.sharing.proofs.sharing.SharingDomain.the-impl.Needs as need
 
 pub lawful-law : need.lawful-law
@@ -20,7 +20,7 @@ lawful-law = lawful
 whole : (v : Groups) (xs : List ℕ) → Below (read v .width) xs → Different xs → take widest xs ≡ xs
 whole v xs below different =
     let few = different-few (read v .width) xs below different in
-    let narrow = read-narrow v in
+    let narrow = read-narrow (v .row) in
     take-all widest xs (omega arith)
 
 pub view-tells : need.view-tells
