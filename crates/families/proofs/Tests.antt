@@ -12,7 +12,6 @@ use Rattle.std.proofs.shelf.Tests.{cases-eq}
 use Rattle.domain.proofs.Booleans.{and-split, and-pair, or-split, or-left, or-right, implies, implied}
 
 pub any-some : (n : ℕ) (p : ℕ → Bool) → T (any n p) → (k : ℕ) × (k < n) × T (p k)
-unfolding any
 any-some zero p t = elim t [ ]
 any-some (suc n) p t =
     ⊎-elim (λ here. (n, omega arith, here))
@@ -20,7 +19,6 @@ any-some (suc n) p t =
     (or-split (p n) (any n p) t)
 
 pub some-any : (n : ℕ) (p : ℕ → Bool) (k : ℕ) → k < n → T (p k) → T (any n p)
-unfolding any
 some-any zero p k l h = absurd (omega arith)
 some-any (suc n) p k l h =
     ⊎-elim (λ e. or-left (p n) (any n p) (subst (λ (j : ℕ). T (p j)) e h))
@@ -28,14 +26,12 @@ some-any (suc n) p k l h =
     (cases-eq k n)
 
 pub all-each : (n : ℕ) (p : ℕ → Bool) → T (all n p) → (k : ℕ) → k < n → T (p k)
-unfolding all
 all-each zero p t k l = absurd (omega arith)
 all-each (suc n) p t k l =
     let (here, rest) = and-split (p n) (all n p) t in
     ⊎-elim (λ e. subst (λ (j : ℕ). T (p j)) (sym e) here) (λ d. all-each n p rest k (omega arith)) (cases-eq k n)
 
 pub each-all : (n : ℕ) (p : ℕ → Bool) → ((k : ℕ) → k < n → T (p k)) → T (all n p)
-unfolding all
 each-all zero p f = tt
 each-all (suc n) p f = and-pair (p n) (all n p) (f n (omega arith)) (each-all n p (λ k l. f k (omega arith)))
 
@@ -63,9 +59,7 @@ each-covers [] g f = tt
 each-covers (z ∷ ys) g f = and-pair (bit g z) (covers ys g) (f z (inl refl)) (each-covers ys g (λ y l. f y (inr l)))
 
 pub within-at : (n g h : ℕ) → T (within n g h) → (i : ℕ) → i < n → T (bit g i) → T (bit h i)
-unfolding within
 within-at n g h t i l = implies (bit g i) (bit h i) (all-each n (λ i. not (bit g i) || bit h i) t i l)
 
 pub at-within : (n g h : ℕ) → ((i : ℕ) → i < n → T (bit g i) → T (bit h i)) → T (within n g h)
-unfolding within
 at-within n g h f = each-all n (λ i. not (bit g i) || bit h i) (λ i l. implied (bit g i) (bit h i) (f i l))

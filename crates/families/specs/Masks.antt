@@ -48,12 +48,12 @@ abbrev pub overlaps : ℕ → ℕ → Bool
 overlaps g h = not (eqb (bitAnd g h) 0)
 
 -- some number below n passes
-unfoldable pub any : ℕ → (ℕ → Bool) → Bool
+abbrev pub any : ℕ → (ℕ → Bool) → Bool
 any zero p = false
 any (suc n) p = p n || any n p
 
 -- every number below n passes
-unfoldable pub all : ℕ → (ℕ → Bool) → Bool
+abbrev pub all : ℕ → (ℕ → Bool) → Bool
 all zero p = true
 all (suc n) p = p n && all n p
 
@@ -63,5 +63,5 @@ count zero p = 0
 count (suc n) p = cond (p n) 1 0 + count n p
 
 -- of the variables below n, each that is in g is in h
-unfoldable pub within : ℕ → ℕ → ℕ → Bool
+abbrev pub within : ℕ → ℕ → ℕ → Bool
 within n g h = all n (λ i. not (bit g i) || bit h i)

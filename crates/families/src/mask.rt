@@ -1,8 +1,8 @@
 // A set of variables as a mask: variable i is in it where bit i is 1.
 ghost use mathlib.Core.Path.{_≡_};
-ghost use Prim.Native.Nat.{ℕ, _<_, min};
+ghost use Prim.Native.Nat.{_<_, min};
 ghost use lib.Dec.{T};
-ghost use lib.ListN.{length, getD, take};
+ghost use lib.ListN.{take};
 ghost use Rattle.domain.specs.Variables.{widest, Below as InRange};
 ghost use Rattle.families.specs.MaskLaws.{Same-law, Alone-law, Whole-law, Coded-law, Cut-law, Meets-law, Covers-law, Overlaps-law};
 ghost use Rattle.families.specs.Masks.{bit, alone, whole, coded, cut as cut-down};

@@ -10,7 +10,7 @@ use Rattle.families.specs.Masks.{whole, cut}
 use Rattle.rows.specs.declared.row.Core.the-variants.{Full}
 use Rattle.rows.specs.Rows.{Cored}
 use Rattle.rows.specs.Values.{Value, Fits}
-use Rattle.formulas.specs.Formulas.{tied, entered, entered-has, backed, unknown}
+use Rattle.formulas.specs.Formulas.{tied, entered, backed, unknown}
 use Rattle.domain.proofs.Booleans.{and-split, and-pair}
 use Rattle.families.proofs.Ranges.{bit-whole, cut-whole, low-whole}
 use Rattle.formulas.proofs.Rules.{tied-rule, backed-rule}
@@ -31,11 +31,9 @@ tied-cored a x ys x-below ys-below cored g t =
 -- ---- enter
 
 pub entered-fits : (a : Value) (v : ℕ) → Fits (entered a v)
-unfolding entered-has
 entered-fits a v h t = ltb→lt h (2 ^ v) (and-split (ltb h (2 ^ v)) (a .has (h % 2 ^ a .width)) t .0)
 
 pub entered-cored : (a : Value) (v : ℕ) → a .width ≤ v → Cored Full a → Cored Full (entered a v)
-unfolding entered-has
 entered-cored a v wide cored h t =
     let n = a .width in
     let held = cored (h % 2 ^ n) (and-split (ltb h (2 ^ v)) (a .has (h % 2 ^ n)) t .1) in

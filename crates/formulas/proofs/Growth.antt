@@ -5,12 +5,11 @@ use Prim.Native.Nat.{ℕ, _%_, _^_}
 use lib.Dec.{T, ltb}
 use Rattle.families.specs.Masks.{bit, cut, covers}
 use Rattle.rows.specs.Values.{Value, Under}
-use Rattle.formulas.specs.Formulas.{alike, tied, tied-has, entered, entered-has, backed, backed-has}
+use Rattle.formulas.specs.Formulas.{alike, tied, entered, backed}
 use Rattle.domain.proofs.Booleans.{and-grows}
 
 module _ (a b : Value) (under : Under a b) where
   pub tie-grows : (x : ℕ) (ys : List ℕ) → Under (tied a x ys) (tied b x ys)
-  unfolding tied-has
   tie-grows x ys = (
     under .0,
     λ g.
@@ -19,7 +18,6 @@ module _ (a b : Value) (under : Under a b) where
   )
 
   pub enter-grows : (v : ℕ) → Under (entered a v) (entered b v)
-  unfolding entered-has
   enter-grows v = (
     refl,
     λ h.
@@ -28,7 +26,6 @@ module _ (a b : Value) (under : Under a b) where
   )
 
   pub back-grows : (args : List ℕ) (c d : Value) → Under c d → Under (backed a args c) (backed b args d)
-  unfolding backed-has
   back-grows args c d ends = (
     under .0,
     λ g.

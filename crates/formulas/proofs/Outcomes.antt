@@ -13,7 +13,7 @@ use Rattle.domain.specs.Outcomes.{Equated, Begun, Resumed}
 use Rattle.domain.specs.Model.{Sides, Arguments, Room, Placed}
 use Rattle.families.specs.Masks.{bit, cut}
 use Rattle.rows.specs.Values.{Value, viewed}
-use Rattle.formulas.specs.Formulas.{Grounded, Modelled, Describes, tied, entered, entered-has, backed, formulas}
+use Rattle.formulas.specs.Formulas.{Grounded, Modelled, Describes, tied, entered, backed, formulas}
 use Rattle.domain.proofs.Booleans.{and-pair}
 use Rattle.families.proofs.Ranges.{bit-low}
 use Rattle.rows.proofs.Values.{some-viewed}
@@ -104,7 +104,6 @@ module _ (a : Value) (v : ℕ) (ts ts′ : List Term) (described : Describes a t
       )
 
   enter-modelled : Modelled (entered a v) longer s
-  unfolding entered-has
   enter-modelled =
       let h = grounds longer s in
       let exact = grounds-exact longer s in

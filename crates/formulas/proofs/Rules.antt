@@ -8,7 +8,7 @@ use lib.Dec.{T, ltb, ltb→lt, lt→ltb}
 use Rattle.std.proofs.shelf.Tests.{cases-lt}
 use Rattle.families.specs.Masks.{bit, cut, covers}
 use Rattle.rows.specs.Values.{Value, Fits}
-use Rattle.formulas.specs.Formulas.{alike, tied, tied-has, entered, entered-has, backed, backed-has}
+use Rattle.formulas.specs.Formulas.{alike, tied, entered, backed}
 use Rattle.formulas.specs.Rules.{Tie-rule, Enter-rule, Back-rule}
 use Rattle.domain.proofs.Booleans.{and-split, and-pair}
 use Rattle.families.proofs.Tests.{covers-each, each-covers}
@@ -28,7 +28,6 @@ alike-both false true t = elim t [ ]
 alike-both false false t = (λ b. b, λ c. c)
 
 pub tied-rule : (a : Value) (x : ℕ) (ys : List ℕ) → Tie-rule a x ys (tied a x ys)
-unfolding tied-has
 tied-rule a x ys = record {
   width = refl;
   sets = λ g.
@@ -55,7 +54,6 @@ low-of n g h below agree = one-mask (λ i. (i < n) × T (bit h i)) g (h % 2 ^ n)
         (l, agree i l .1 b)
 
 pub entered-rule : (a : Value) → Fits a → (v : ℕ) → Enter-rule a v (entered a v)
-unfolding entered-has
 entered-rule a fits v = record {
   width = refl;
   sets = λ h.
@@ -74,7 +72,6 @@ entered-rule a fits v = record {
 -- ---- back
 
 pub backed-rule : (a : Value) (args : List ℕ) (b : Value) → Back-rule a args b (backed a args b)
-unfolding backed-has
 backed-rule a args b = record {
   width = refl;
   sets = λ g.

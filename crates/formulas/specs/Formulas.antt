@@ -40,21 +40,21 @@ abbrev pub alike : Bool → Bool → Bool
 alike b c = cond b c (not c)
 
 -- the models that have x just where they have all of ys
-unfoldable pub tied-has : Value → ℕ → List ℕ → ℕ → Bool
+abbrev pub tied-has : Value → ℕ → List ℕ → ℕ → Bool
 tied-has a x ys g = a .has g && alike (bit g x) (covers ys g)
 
 abbrev pub tied : Value → ℕ → List ℕ → Value
 tied a x ys = record { width = a .width; has = tied-has a x ys }
 
 -- each model with each set of the new variables: below the old width it is a model of a
-unfoldable pub entered-has : Value → ℕ → ℕ → Bool
+abbrev pub entered-has : Value → ℕ → ℕ → Bool
 entered-has a v h = ltb h (2 ^ v) && a .has (h % 2 ^ a .width)
 
 abbrev pub entered : Value → ℕ → Value
 entered a v = record { width = v; has = entered-has a v }
 
 -- the models that at the arguments are models of b
-unfoldable pub backed-has : Value → List ℕ → Value → ℕ → Bool
+abbrev pub backed-has : Value → List ℕ → Value → ℕ → Bool
 backed-has a args b g = a .has g && b .has (cut args g)
 
 abbrev pub backed : Value → List ℕ → Value → Value

@@ -12,3 +12,6 @@ pub use formulas::FormulasDomain;
 pub use formulas::FormulasExact;
 pub use models::Models;
 pub use show::ModelsDisplay;
+
+#[cfg(test)]
+mod tests;

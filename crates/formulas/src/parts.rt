@@ -51,10 +51,12 @@ impl Models {
         if !self.has_sides(x, ys) {
             return *self;
         }
-        let map = models.filtered(&Agrees {
-            x,
-            ys: mask::of(ys),
-        });
+        let map = models.filtered(
+            &Agrees {
+                x,
+                ys: mask::of(ys),
+            },
+        );
         Models {
             row: Row {
                 width: self.width(),
@@ -85,10 +87,12 @@ impl Models {
         ensures reads { λ r. ⌜ read r ≡ the-entry (read (now (self .entry))) v ⌝ }
         ensures rule { λ r. ⌜ Enter-rule (read (now (self .entry))) v (read r) ⌝ }
     {
-        let map = Family::all().filtered(&Extends {
-            low: mask::all(self.width()),
-            models,
-        });
+        let map = Family::all().filtered(
+            &Extends {
+                low: mask::all(self.width()),
+                models,
+            },
+        );
         Models {
             row: Row { width: v, map },
         }

@@ -1,20 +1,20 @@
 -- The core: it lies below the width, a join keeps it, and a view does where its variables allow. Assumes nothing.
-use mathlib.Core.Path.{_≡_, sym, subst, _∙_}
+use mathlib.Core.Path.{_≡_, sym, subst}
 use mathlib.Core.List.{List}
 use mathlib.Core.Logic.{⊎-elim}
-use Prim.Native.Nat.{ℕ, _^_, _<_, _≤_}
+use Prim.Native.Nat.{ℕ, _^_, _<_}
 use lib.Dec.{T}
 use lib.ListN.{length}
 use lib.Pow.{pow-pos, ones-lt}
 use Rattle.std.proofs.shelf.Tests.{cases-lt}
 use Rattle.domain.proofs.Booleans.{or-split, or-left, or-right}
-use Rattle.families.specs.Masks.{bit, cut}
+use Rattle.families.specs.Masks.{cut}
 use Rattle.families.proofs.Masks.{below-bits, cut-empty}
 use Rattle.families.proofs.Ranges.{cut-whole, whole-cut}
 use Rattle.rows.specs.declared.row.Core.{Core}
 use Rattle.rows.specs.declared.row.Core.the-variants.{Empty, Full}
 use Rattle.rows.specs.Rows.{core, Cored, Keeps}
-use Rattle.rows.specs.Values.{Value, Fits, never, joined, viewed, viewed-has}
+use Rattle.rows.specs.Values.{Value, never, joined, viewed, viewed-has}
 use Rattle.rows.proofs.Values.{viewed-some, some-viewed}
 
 pub core-low : (c : Core) (n : ℕ) → core c n < 2 ^ n

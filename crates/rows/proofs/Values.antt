@@ -53,20 +53,17 @@ join-least a b c ac bc = (ac .0, λ g t. ⊎-elim (ac .1 g) (bc .1 g) (or-split 
 -- ---- the view
 
 pub viewed-some : (a : Value) (xs : List ℕ) (h : ℕ) → T (viewed-has a xs h) → (g : ℕ) × T (a .has g) × (h ≡ cut xs g)
-unfolding viewed-has
 viewed-some a xs h t =
     let (g, l, s) = any-some (2 ^ a .width) (λ g. a .has g && eqb h (cut xs g)) t in
     let (held, e) = and-split (a .has g) (eqb h (cut xs g)) s in
     (g, held, eqb→eq h (cut xs g) e)
 
 pub some-viewed : (a : Value) (xs : List ℕ) (g : ℕ) → g < 2 ^ a .width → T (a .has g) → T (viewed-has a xs (cut xs g))
-unfolding viewed-has
 some-viewed a xs g l held =
     some-any (2 ^ a .width) (λ h. a .has h && eqb (cut xs g) (cut xs h)) g l
     (and-pair (a .has g) (eqb (cut xs g) (cut xs g)) held (eqb-refl (cut xs g)))
 
 pub view-grows : (a b : Value) → Under a b → (xs : List ℕ) → Under (viewed a xs) (viewed b xs)
-unfolding viewed-has
 view-grows a b under xs = (
   refl,
   λ h t.

@@ -27,7 +27,7 @@ abbrev pub joined : Value → Value → Value
 joined a b = record { width = a .width; has = λ g. a .has g || b .has g }
 
 -- each set cut down to the variables listed, and renumbered
-unfoldable pub viewed-has : Value → List ℕ → ℕ → Bool
+abbrev pub viewed-has : Value → List ℕ → ℕ → Bool
 viewed-has a xs h = any (2 ^ a .width) (λ g. a .has g && eqb h (cut xs g))
 
 abbrev pub viewed : Value → List ℕ → Value

@@ -1,11 +1,14 @@
 // A value as it lies in a row: a width, and a bit for each set. It has no invariant: whatever lies there, a lawful value is
 // read off it, by the core of the domain.
 ghost use mathlib.Core.Path.{_≡_};
-ghost use Prim.Native.Nat.{_≤_, min};
+ghost use mathlib.Core.Logic.{_↔_};
+ghost use Prim.Native.Nat.{ℕ, _≤_, min};
 ghost use lib.Dec.{T};
 ghost use lib.ListN.{take};
 ghost use Rattle.domain.specs.Variables.{widest};
-ghost use Rattle.rows.specs.Make.{Makes-row};
+ghost use Rattle.families.specs.Listings.{In-bounds, Meant};
+ghost use Rattle.families.specs.Words.{holds};
+ghost use Rattle.rows.specs.Make.{Meaning, Makes-row};
 ghost use Rattle.rows.specs.Rows.{core as the-core, read, read-width, Off, View-reads, View-follows, View-lost};
 ghost use Rattle.rows.specs.Values.{Under, never as none, joined, rank as size};
 use domain::Refusal;
@@ -46,8 +49,9 @@ impl Row {
     pub fn listed(width: u8, sets: Listing, core: Core) -> Result<Row, Refusal>
         ensures { λ r. ⌜ Makes-row core width (sets .entry) r ⌝ }
     {
-        let map = sets.family(width, core.of(width))?;
-        Ok(Row { width, map })
+        let first = core.of(width);
+        let map = sets.family(width, first)?;
+        Ok(made(width, sets, core, first, map))
     }
 
     // A width past the largest reads as the largest.
@@ -61,11 +65,7 @@ impl Row {
     pub fn sets(&self, core: Core) -> Family
         ensures { λ r. ⌜ Off core (now (self .entry)) r ⌝ }
     {
-        if self.map.has(core.of(self.width)) {
-            self.map.narrowed(self.width())
-        } else {
-            Family::new()
-        }
+        self.narrowed(core, core.of(self.width))
     }
 
     // The row without sets.
@@ -111,6 +111,18 @@ impl Row {
         self.counted(&self.sets(core), core)
     }
 
+    // The sets below the width, if the core is there.
+    fn narrowed(&self, core: Core, first: Mask) -> Family
+        requires { ⌜ first ≡ the-core core (read-width (now self)) ⌝ }
+        ensures { λ r. ⌜ Off core (now (self .entry)) r ⌝ }
+    {
+        if self.map.has(first) {
+            self.map.narrowed(self.width())
+        } else {
+            Family::new()
+        }
+    }
+
     fn united(&self, other: &Row, core: Core) -> Row
         requires { ⌜ read-width (now self) ≡ read-width (now other) ⌝ }
         ensures { λ r. ⌜ read core r ≡ joined (read core (now (self .entry))) (read core (now (other .entry))) ⌝ }
@@ -152,4 +164,13 @@ fn empty(width: u8, core: Core) -> Row
         width,
         map: Family::new(),
     }
+}
+
+// The row of the sets that are meant.
+fn made(width: u8, sets: Listing, core: Core, first: Mask, map: Family) -> Row
+    requires core { ⌜ first ≡ the-core core (min width widest) ⌝ }
+    requires listed { ⌜ (width ≤ widest) × In-bounds width sets × ((h : ℕ) → T (holds map h) ↔ Meant first sets h) ⌝ }
+    ensures { λ r. ⌜ Meaning core width (sets .entry) (read core r) ⌝ }
+{
+    Row { width, map }
 }

@@ -11,7 +11,7 @@ use Rattle.domain.specs.Term.{Term, Subst, Occurs, Inside, apply, term-at, pick
 use Rattle.domain.specs.Outcomes.{Returns}
 use Rattle.families.specs.Masks.{cut, meets}
 use Rattle.rows.specs.Values.{Value}
-use Rattle.sharing.specs.Sharing.{Grouped, Describes, picks, union, backed, backed-has}
+use Rattle.sharing.specs.Sharing.{Grouped, Describes, picks, union, backed}
 use Rattle.domain.proofs.Booleans.{and-pair, or-left, or-right}
 use Rattle.families.proofs.Tests.{meets-some, some-meets}
 use Rattle.domain.proofs.Terms.{decide-inside, occurs-from, occurs-into, applied-at, picked-some, some-picked}
@@ -92,7 +92,6 @@ module _ (a : Value) (args : List ℕ) (b : Value) (ts rs : List Term) (describe
         and-pair (a .has h) (not (p h)) (after-held a ts described s u InArgument in-argument (returns .stays) none) (not-T (p h) untouched)
 
   back-group : Grouped (backed a args b) (map (apply s) ts) u
-  unfolding backed-has
   back-group =
       let stay = a .has h && not (p h) in
       let come = union a p h && (some && b .has (cut args h)) in

@@ -11,7 +11,7 @@ use Rattle.families.specs.Masks.{bit, cut, meets}
 use Rattle.rows.specs.declared.row.Core.the-variants.{Empty}
 use Rattle.rows.specs.Rows.{Cored}
 use Rattle.rows.specs.Values.{Value, Fits}
-use Rattle.sharing.specs.Sharing.{touches, picks, union, tied, tied-has, entered, backed, backed-has}
+use Rattle.sharing.specs.Sharing.{touches, picks, union, tied, entered, backed}
 use Rattle.domain.proofs.Booleans.{and-split, and-pair, or-split, or-left}
 use Rattle.families.proofs.Masks.{zero-bits, empty-misses}
 use Rattle.sharing.proofs.Picks.{picks-some, union-all}
@@ -20,7 +20,6 @@ use Rattle.sharing.proofs.Rules.{entered-rule}
 -- ---- tie
 
 pub tied-fits : (a : Value) (x : ℕ) (ys : List ℕ) → Fits a → Fits (tied a x ys)
-unfolding tied-has
 tied-fits a x ys fits h t =
     let p = touches x ys in
     let joins = picks a p h (λ g. bit g x) && picks a p h (meets ys) in
@@ -29,11 +28,9 @@ tied-fits a x ys fits h t =
     (or-split (a .has h && not (p h)) (union a p h && joins) t)
 
 empty-untouched : (x : ℕ) (ys : List ℕ) → T (touches x ys 0) → ⊥
-unfolding touches
 empty-untouched x ys t = ⊎-elim (zero-bits x) (empty-misses ys) (or-split (bit 0 x) (meets ys 0) t)
 
 pub tied-cored : (a : Value) (x : ℕ) (ys : List ℕ) → Cored Empty a → Cored Empty (tied a x ys)
-unfolding tied-has
 tied-cored a x ys full h t =
     let p = touches x ys in
     let with-x = λ (k : ℕ). picks a p k (λ g. bit g x) in
@@ -63,7 +60,6 @@ entered-cored a v full h t =
 -- ---- back
 
 pub backed-fits : (a : Value) (args : List ℕ) (b : Value) → Fits a → Fits (backed a args b)
-unfolding backed-has
 backed-fits a args b fits h t =
     let p = meets args in
     let joins = picks a p h (λ g. true) && b .has (cut args h) in
@@ -75,7 +71,6 @@ backed-fits a args b fits h t =
     (or-split kept made (and-split (b .has 0) (kept || made) t₁ .1))
 
 pub backed-cored : (a : Value) (args : List ℕ) (b : Value) → Cored Empty a → Cored Empty (backed a args b)
-unfolding backed-has
 backed-cored a args b full h t =
     let p = meets args in
     let kept = λ (k : ℕ). a .has k && not (p k) in

@@ -6,7 +6,7 @@ use Prim.Native.Nat.{ℕ, _^_, _<_}
 use lib.Dec.{T, eqb, leb}
 use Rattle.families.specs.Masks.{bit, cut, any, meets}
 use Rattle.rows.specs.Values.{Value, Under}
-use Rattle.sharing.specs.Sharing.{touches, picks, union, tied, tied-has, entered, entered-has, backed, backed-has}
+use Rattle.sharing.specs.Sharing.{touches, picks, union, tied, entered, backed}
 use Rattle.domain.proofs.Booleans.{and-grows, or-grows}
 use Rattle.sharing.proofs.Picks.{Picked, picks-some, some-picks, union-all, all-union}
 
@@ -39,7 +39,6 @@ module _ (a b : Value) (under : Under a b) where
   kept-grows keep h = and-grows (a .has h) keep (b .has h) keep (under .1 h) (λ t. t)
 
   pub tie-grows : (x : ℕ) (ys : List ℕ) → Under (tied a x ys) (tied b x ys)
-  unfolding tied-has
   tie-grows x ys = (
     under .0,
     λ h.
@@ -53,7 +52,6 @@ module _ (a b : Value) (under : Under a b) where
   )
 
   pub back-grows : (args : List ℕ) (c d : Value) → Under c d → Under (backed a args c) (backed b args d)
-  unfolding backed-has
   back-grows args c d ends = (
     under .0,
     λ h.
@@ -70,7 +68,6 @@ module _ (a b : Value) (under : Under a b) where
   )
 
   pub enter-grows : (v : ℕ) → Under (entered a v) (entered b v)
-  unfolding entered-has
   enter-grows v = (
     refl,
     λ h.

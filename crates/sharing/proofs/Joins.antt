@@ -13,7 +13,6 @@ use Rattle.families.proofs.Unions.{selected-bit, selected-meets}
 use Rattle.sharing.proofs.Rules.{tied-rule, backed-rule}
 
 pub tied-by-unions : (a : Value) → Fits a → (x : ℕ) (ys : List ℕ) (h : ℕ) → T (tied a x ys .has h) ↔ ((T (a .has h) × (T (touches x ys h) → ⊥)) ⊎ (Selection (Touched a x ys) h × T (bit h x) × T (meets ys h)))
-unfolding touches
 tied-by-unions a fits x ys h = (
   λ t.
       ⊎-elim (λ k. inl (k .0, λ b. ⊎-elim (k .1) (k .2) (or-split (bit h x) (meets ys h) b)))

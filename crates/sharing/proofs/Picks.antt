@@ -84,7 +84,6 @@ pub record Picked (a : Value) (p : ℕ → Bool) (h : ℕ) (q : ℕ → Bool) : 
 
 module _ (a : Value) (p : ℕ → Bool) (h : ℕ) where
   pub picks-some : (q : ℕ → Bool) → T (picks a p h q) → Picked a p h q
-  unfolding picks
   picks-some q t =
       let (g, l, s) = any-some (2 ^ a .width) (λ g. a .has g && (p g && (within (a .width) g h && q g))) t in
       let (t₁, s₁) = and-split (a .has g) (p g && (within (a .width) g h && q g)) s in
@@ -93,7 +92,6 @@ module _ (a : Value) (p : ℕ → Bool) (h : ℕ) where
       record { g = g; below = l; held = t₁; passes = t₂; inner = within-at (a .width) g h t₃; also = t₄ }
 
   pub some-picks : (q : ℕ → Bool) → Picked a p h q → T (picks a p h q)
-  unfolding picks
   some-picks q k =
       let g = k .g in
       some-any (2 ^ a .width) (λ g. a .has g && (p g && (within (a .width) g h && q g))) g (k .below)
@@ -106,7 +104,6 @@ module _ (a : Value) (p : ℕ → Bool) (h : ℕ) where
     pub covered : (i : ℕ) → i < a .width → T (bit h i) → Picked a p h (λ g. bit g i)
 
   pub union-all : T (union a p h) → United
-  unfolding union
   union-all t =
       let test : ℕ → Bool = λ i. not (bit h i) || picks a p h (λ g. bit g i) in
       let (t₁, t₂) = and-split (ltb h (2 ^ a .width)) (all (a .width) test) t in
@@ -116,7 +113,6 @@ module _ (a : Value) (p : ℕ → Bool) (h : ℕ) where
       }
 
   pub all-union : United → T (union a p h)
-  unfolding union
   all-union k =
       let test : ℕ → Bool = λ i. not (bit h i) || picks a p h (λ g. bit g i) in
       and-pair (ltb h (2 ^ a .width)) (all (a .width) test) (lt→ltb h (2 ^ a .width) (k .below))

@@ -15,7 +15,7 @@ use Rattle.domain.specs.Term.Term.{var, app}
 use Rattle.domain.specs.Term.Terms.{end}
 use Rattle.families.specs.Masks.{bit, cut, any}
 use Rattle.rows.specs.Values.{Value, viewed}
-use Rattle.sharing.specs.Sharing.{Grouped, Describes, entered, entered-has}
+use Rattle.sharing.specs.Sharing.{Grouped, Describes, entered}
 use Rattle.domain.proofs.Booleans.{and-pair, or-left, or-right}
 use Rattle.families.proofs.Tests.{some-any}
 use Rattle.families.proofs.Masks.{bit-power, power-bit}
@@ -95,7 +95,6 @@ module _ (a : Value) (v : ℕ) (ts : List Term) (described : Describes a ts) (us
       (cases-lt i n)
 
   old-group : (u : ℕ) → (Listed u us → ⊥) → Grouped (entered a v) all-terms u
-  unfolding entered-has
   old-group u not-new =
       let k = described .1 u in
       record {
@@ -114,7 +113,6 @@ module _ (a : Value) (v : ℕ) (ts : List Term) (described : Describes a ts) (us
       }
 
   new-group : (u : ℕ) → Listed u us → Grouped (entered a v) all-terms u
-  unfolding entered-has
   new-group u listed =
       let k = stands us u different listed in
       let m = n + k .place in

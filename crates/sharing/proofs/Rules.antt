@@ -113,7 +113,7 @@ module _ (a : Value) (fits : Fits a) (x : ℕ) (ys : List ℕ) (h : ℕ) where
   tied-up = union a touching h && (with-x && with-ys)
 
   tied-to : T (tied-has a x ys h) → Tied-so
-  unfolding tied-has touches selection
+  unfolding selection
   tied-to t =
       ⊎-elim
       (λ k.
@@ -130,7 +130,6 @@ module _ (a : Value) (fits : Fits a) (x : ℕ) (ys : List ℕ) (h : ℕ) where
       (or-split untouched tied-up t)
 
   tied-from : Tied-so → T (tied-has a x ys h)
-  unfolding tied-has touches
   tied-from (inl (held, lacks, misses)) =
       or-left untouched tied-up
       (and-pair (a .has h) (not (touching h)) held (not-T (touching h) (λ t. ⊎-elim lacks misses (or-split (bit h x) (meets ys h) t))))
@@ -153,7 +152,6 @@ module _ (a : Value) (v h : ℕ) where
   new-alone i = leb (a .width) i && eqb h (2 ^ i)
 
   entered-to : T (entered-has a v h) → Entered-so
-  unfolding entered-has
   entered-to t =
       let (empty, s) = and-split (a .has 0) (a .has h || any v new-alone) t in (
         empty,
@@ -166,7 +164,6 @@ module _ (a : Value) (v h : ℕ) where
       )
 
   entered-from : Entered-so → T (entered-has a v h)
-  unfolding entered-has
   entered-from (empty, k) =
       and-pair (a .has 0) (a .has h || any v new-alone) empty
       (⊎-elim (or-left (a .has h) (any v new-alone))
@@ -202,7 +199,7 @@ module _ (a : Value) (fits : Fits a) (args : List ℕ) (b : Value) (h : ℕ) whe
   comes = union a passed h && (some && b .has (cut args h))
 
   backed-to : T (backed-has a args b h) → Backed-so
-  unfolding backed-has selection
+  unfolding selection
   backed-to t =
       let (empty-a, t₁) = and-split (a .has 0) (b .has 0 && (stays || comes)) t in
       let (empty-b, t₂) = and-split (b .has 0) (stays || comes) t₁ in (
@@ -218,7 +215,6 @@ module _ (a : Value) (fits : Fits a) (args : List ℕ) (b : Value) (h : ℕ) whe
       )
 
   backed-from : Backed-so → T (backed-has a args b h)
-  unfolding backed-has
   backed-from (empty-a, empty-b, ways) =
       and-pair (a .has 0) (b .has 0 && (stays || comes)) empty-a
       (and-pair (b .has 0) (stays || comes) empty-b

@@ -73,7 +73,6 @@ module _ (a : Value) (fits : Fits a) (narrow : a .width ≤ widest) where
 
   module _ (x : ℕ) (ys : List ℕ) where
     same-touched : (g : ℕ) → g < sets → T (overlaps g (bitOr (alone x) (coded ys))) ↔ T (touches x ys g)
-    unfolding touches
     same-touched g l = (
       λ t.
           ⊎-elim (λ b. or-left (bit g x) (meets ys g) (overlaps-alone g l x .0 b))

@@ -13,7 +13,7 @@ use Rattle.domain.specs.Outcomes.{Unifies, Side}
 use Rattle.domain.specs.Outcomes.Side.{one, built}
 use Rattle.families.specs.Masks.{bit, meets}
 use Rattle.rows.specs.Values.{Value}
-use Rattle.sharing.specs.Sharing.{Grouped, Describes, touches, picks, union, tied, tied-has}
+use Rattle.sharing.specs.Sharing.{Grouped, Describes, touches, picks, union, tied}
 use Rattle.domain.proofs.Booleans.{and-pair, or-split, or-left, or-right}
 use Rattle.families.proofs.Tests.{meets-some, some-meets}
 use Rattle.domain.proofs.Terms.{decide-occurs, occurs-from, occurs-into, picked-some, some-picked}
@@ -81,7 +81,6 @@ module _ (a : Value) (x : ℕ) (ys : List ℕ) (ts : List Term) (described : Des
         ⊎-elim off (λ new. omega arith) (unifies .brings v u (inl o) k)
 
     touching : (w i : ℕ) → Occurs w (term-at ts i) → Occurs u (s w) → T (p (described .1 w .g))
-    unfolding touches
     touching w i o k =
         let g = described .1 w .g in
         let exact = described .1 w .exact in
@@ -114,7 +113,6 @@ module _ (a : Value) (x : ℕ) (ys : List ℕ) (ts : List Term) (described : Des
         (λ r. missing (subst (λ (t : Term). Occurs u t) (sym (unifies .equal)) (occurs-into s u w right r k))) o
 
     untouched : T (p h) → ⊥
-    unfolding touches
     untouched t =
         ⊎-elim (λ b. let (w, o, k) = origin ts s u x b in none w (inl o) k)
         (λ m. let (y, l, b) = meets-some ys h m in
@@ -126,7 +124,6 @@ module _ (a : Value) (x : ℕ) (ys : List ℕ) (ts : List Term) (described : Des
     kept = and-pair (a .has h) (not (p h)) (after-held a ts described s u OnSide on-side stays none) (not-T (p h) untouched)
 
   tie-group : Grouped (tied a x ys) (map (apply s) ts) u
-  unfolding tied-has
   tie-group = record {
     g = h;
     held =

@@ -32,23 +32,23 @@ Describes a ts = (length ts ≡ a .width) × ((u : ℕ) → Grouped a ts u)
 -- ---- unions
 
 -- some group of a passes p, lies within h, and passes q
-unfoldable pub picks : Value → (ℕ → Bool) → ℕ → (ℕ → Bool) → Bool
+abbrev pub picks : Value → (ℕ → Bool) → ℕ → (ℕ → Bool) → Bool
 picks a p h q = any (2 ^ a .width) (λ g. a .has g && (p g && (within (a .width) g h && q g)))
 
 -- h is a union of groups of a that pass p. It is one of some of them just where it is the union of all of them that
 -- lie within h: where each variable of h is in one that lies within h.
-unfoldable pub union : Value → (ℕ → Bool) → ℕ → Bool
+abbrev pub union : Value → (ℕ → Bool) → ℕ → Bool
 union a p h = ltb h (2 ^ a .width) && all (a .width) (λ i. not (bit h i) || picks a p h (λ g. bit g i))
 
 -- ---- the functions
 
 -- g has x or meets ys
-unfoldable pub touches : ℕ → List ℕ → ℕ → Bool
+abbrev pub touches : ℕ → List ℕ → ℕ → Bool
 touches x ys g = bit g x || meets ys g
 
 -- The groups that touch neither side stay. The others give each union of some of them, of which one has x and one
 -- meets ys; it may be the same one.
-unfoldable pub tied-has : Value → ℕ → List ℕ → ℕ → Bool
+abbrev pub tied-has : Value → ℕ → List ℕ → ℕ → Bool
 tied-has a x ys h =
     (a .has h && not (touches x ys h))
     || (union a (touches x ys) h && (picks a (touches x ys) h (λ g. bit g x) && picks a (touches x ys) h (meets ys)))
@@ -57,7 +57,7 @@ abbrev pub tied : Value → ℕ → List ℕ → Value
 tied a x ys = record { width = a .width; has = tied-has a x ys }
 
 -- the groups of a, and each new variable alone; nothing, where a lacks the empty group and so describes nothing
-unfoldable pub entered-has : Value → ℕ → ℕ → Bool
+abbrev pub entered-has : Value → ℕ → ℕ → Bool
 entered-has a v h = a .has 0 && (a .has h || any v (λ i. leb (a .width) i && eqb h (2 ^ i)))
 
 abbrev pub entered : Value → ℕ → Value
@@ -65,7 +65,7 @@ entered a v = record { width = v; has = entered-has a v }
 
 -- The groups that meet no argument stay. The others give each union of one or more of them that b has at the
 -- arguments. Nothing, where a or b lacks the empty group and so describes nothing.
-unfoldable pub backed-has : Value → List ℕ → Value → ℕ → Bool
+abbrev pub backed-has : Value → List ℕ → Value → ℕ → Bool
 backed-has a args b h =
     a .has 0 && (b .has 0 && (
     (a .has h && not (meets args h))

@@ -27,7 +27,6 @@ loop-i-holds c h =
     (λ t. absurd t))
 
 pub loop-i-again : need.loop-i-again
-unfolding any
 loop-i-again c h =
     let from : ℕ = c .args .from in
     let i : ℕ = c .loop-i .i in

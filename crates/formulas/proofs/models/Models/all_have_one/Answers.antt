@@ -7,7 +7,7 @@ use lib.Bits.{bitOr}
 use lib.Dec.{T, T-not, not-T}
 use Rattle.std.proofs.shelf.Tests.{cases-lt}
 use Rattle.domain.proofs.Booleans.{and-split, and-pair, same-test, tested}
-use Rattle.families.specs.Masks.{bit, overlaps, alone}
+use Rattle.families.specs.Masks.{overlaps, alone}
 use Rattle.families.specs.Words.{holds}
 use Rattle.families.proofs.Overlaps.{overlaps-or, overlaps-alone}
 use Rattle.families.proofs.Words.{holds-low}

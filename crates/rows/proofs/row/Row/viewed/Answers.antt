@@ -1,6 +1,6 @@
 use mathlib.Core.Path.{_≡_, sym, ap, subst, _∙_}
 use mathlib.Core.List.{List}
-use Prim.Native.Nat.{ℕ, _≤_, min}
+use Prim.Native.Nat.{ℕ, _≤_}
 use native.Mathlib.Omega.{arith}
 use lib.Dec.{T}
 use lib.ListN.{length, take}
@@ -37,9 +37,11 @@ returns c =
     (λ t. let (g, held, e) = viewed-some a xs h t in c .view .ensures h .1 (g, subst T (sym (c .pre g)) held, e))) in
     let read-wide : read k row .width ≡ length xs = omega arith in
     let lost : (Keeps k (a .width) xs → ⊥) → read k row ≡ never (length xs) = λ gone.
-    under-antisym (read k row) (never (length xs))
-    (read-wide, λ g t.
-    let (m, here, e) = c .view .ensures (core k (read k row .width)) .0 (read-to k row g t .1) in
-    gone (cut-core k (a .width) xs m (read-fits k v m (subst T (c .pre m) here)) (sym e ∙ ap (core k) read-wide)))
+    under-antisym (read k row) (never (length xs)) (
+      read-wide,
+      λ g t.
+          let (m, here, e) = c .view .ensures (core k (read k row .width)) .0 (read-to k row g t .1) in
+          gone (cut-core k (a .width) xs m (read-fits k v m (subst T (c .pre m) here)) (sym e ∙ ap (core k) read-wide)),
+    )
     (sym read-wide, λ g t. absurd t) in
     record { reads = reads; rule = λ keeps. subst (View-rule a xs) (sym (reads keeps)) (viewed-rule a (read-fits k v) xs); lost = lost }

@@ -6,7 +6,7 @@ use Rattle.families.specs.Masks.{any}
 use Rattle.families.specs.Words.{holds}
 use Rattle.domain.proofs.Booleans.{and-split, and-pair, same-test, shown, denied}
 use Rattle.rows.specs.declared.row.Core.the-variants.{Empty}
-use Rattle.sharing.specs.Sharing.{read, entered, entered-has}
+use Rattle.sharing.specs.Sharing.{read, entered}
 use Rattle.sharing.specs.Rules.{Enter-rule}
 use Rattle.sharing.proofs.Closure.{entered-fits, entered-cored}
 use Rattle.rows.proofs.Reading.{stored, read-fits, read-cored}
@@ -14,7 +14,6 @@ use Rattle.sharing.proofs.Rules.{entered-rule}
 use Rattle.sharing.proofs.groups.Groups.entered.Needs as need
 
 pub returns-then-has : need.returns-then-has
-unfolding entered-has
 returns-then-has c =
     let r = c .args .self .now in
     let a = read r in
@@ -32,7 +31,6 @@ returns-then-has c =
     record { reads = reads; rule = subst (Enter-rule a v) (sym reads) (entered-rule a v) }
 
 pub returns-else-has : need.returns-else-has
-unfolding entered-has
 returns-else-has c =
     let r = c .args .self .now in
     let a = read r in

@@ -1,11 +1,11 @@
-use mathlib.Core.Path.{_≡_, ap, _∙_}
+use mathlib.Core.Path.{ap, _∙_}
 use mathlib.Core.Bool.{Bool, false, _&&_}
 use Prim.Native.Nat.{ℕ, _^_}
 use lib.Dec.{ltb}
 use Rattle.domain.proofs.Booleans.{and-split, and-pair, same-test, shown, denied}
 use Rattle.families.specs.Words.{holds}
 use Rattle.rows.specs.Rows.{core, read-width, read-has}
-use Rattle.rows.proofs.row.Row.sets.Needs as need
+use Rattle.rows.proofs.row.Row.narrowed.Needs as need
 
 pub returns-then-has : need.returns-then-has
 unfolding read-has
@@ -19,7 +19,7 @@ returns-then-has c g =
     ∙ same-test (has g && low) (low && (first && has g))
     (λ t.
     let (held, l) = and-split (has g) low t in
-    and-pair low (first && has g) l (and-pair first (has g) (shown first (c .if-has .ensures tt ∙ ap has (c .of .ensures))) held))
+    and-pair low (first && has g) l (and-pair first (has g) (shown first (c .if-has .ensures tt ∙ ap has (c .pre))) held))
     (λ t.
     let (l, k) = and-split low (first && has g) t in
     and-pair (has g) low (and-split first (has g) k .1) l)
@@ -34,4 +34,4 @@ returns-else-has c g =
     c .new .ensures g
     ∙ same-test false (low && (first && has g)) (λ t. absurd t)
     (λ t.
-    denied first (c .if-has .ensures tt ∙ ap has (c .of .ensures)) (and-split first (has g) (and-split low (first && has g) t .1) .0))
+    denied first (c .if-has .ensures tt ∙ ap has (c .pre)) (and-split first (has g) (and-split low (first && has g) t .1) .0))
