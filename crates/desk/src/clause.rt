@@ -1,13 +1,7 @@
 // A clause as far as it is followed here: its goals are equations.
-use std::fmt;
-
-#[derive(Clone, Copy)]
-pub enum Goal<'a> {
-    // x = y
-    Same { x: u8, y: u8 },
-    // x = f(ys..)
-    Build { x: u8, functor: u8, ys: &'a [u8] },
-}
+use formulas::Models;
+use goals::Goal;
+use sharing::Groups;
 
 // Its first variables are the arguments of its head.
 #[derive(Clone, Copy)]
@@ -17,17 +11,9 @@ pub struct Clause<'g, 'v> {
     pub goals: &'g [Goal<'v>],
 }
 
-pub impl<'a> fmt::Display for Goal<'a> as GoalDisplay {
-    fn fmt<W: fmt::Write>(&self, f: &mut fmt::Formatter<W>) -> fmt::Result {
-        match self {
-            Goal::Same { x, y } => write!(f, "same {x} {y}"),
-            Goal::Build { x, functor, ys } => {
-                write!(f, "build {x} {functor}")?;
-                for y in ys.iter() {
-                    write!(f, " {y}")?;
-                }
-                Ok(())
-            }
-        }
-    }
+// The row at a point, as each domain has it.
+#[derive(Clone, Copy)]
+pub struct Rows {
+    pub groups: Groups,
+    pub models: Models,
 }

@@ -1,14 +1,18 @@
-// desk: follows one clause of a show book through its equations, prints the row of sharing groups at every point, and
-// says at the end which variables are ground, which pairs are apart, and which neighbouring goals may run side by side.
+// desk: follows one clause of a show book through its equations in both domains side by side, prints the row at every point
+// as groups and as models, what each says of the variables and of neighbouring goals, and where and why they differ.
 mod clause;
-mod follow;
+mod differences;
 mod report;
 
 use clause::Clause;
-use clause::Goal;
+use clause::Rows;
 use domain::Domain;
+use domain::Refusal;
 use domain::RefusalDisplay;
 use families::Listing;
+use formulas::FormulasDomain;
+use formulas::Models;
+use goals::Goal;
 use sharing::Groups;
 use sharing::SharingDomain;
 use std::error::AnyError;
@@ -17,42 +21,45 @@ fn main(rt: LibcRuntime) -> Result<(), AnyError> {
     rt.report(rehearse(&rt))
 }
 
-// A cue is a scene and a text; the left screen shows the text, and the right one the text with the note in the margin.
-// Functor 1 is `at`, 2 `plain` and 3 `noted`.
+// A note goes to the margin, and both screens go dark. Functor 1 is `margin`, and 2 is the title `blank`.
 fn rehearse(rt: &LibcRuntime) -> Result<(), AnyError> {
     let goals = [
         Goal::Build {
-            x: 0,
+            x: 2,
             functor: 1,
-            ys: &[3, 4],
+            ys: &[3],
+        },
+        Goal::Same { x: 0, y: 1 },
+        Goal::Build {
+            x: 0,
+            functor: 2,
+            ys: &[],
         },
         Goal::Build {
             x: 1,
             functor: 2,
-            ys: &[4],
+            ys: &[],
         },
-        Goal::Build {
-            x: 2,
-            functor: 3,
-            ys: &[4, 5],
-        },
-        Goal::Same { x: 5, y: 6 },
     ];
     let clause = Clause {
-        arguments: 3,
-        variables: 7,
+        arguments: 2,
+        variables: 4,
         goals: &goals,
     };
-    println!(rt, "screens(Cue, Left, Right)")?;
-    println!(
-        rt,
-        "variables  0 Cue, 1 Left, 2 Right, 3 Scene, 4 Text, 5 Note, 6 Margin"
-    )?;
-    // The cue comes bound; the two titles do not, and share nothing.
-    let mut entry = Groups::never(clause.arguments);
-    match Groups::make(clause.arguments, Listing::Sets(&[&[1], &[2]]), &mut entry) {
-        Ok(()) => report::clause(rt, &clause, &entry)?,
+    println!(rt, "dark(Left, Right)")?;
+    println!(rt, "variables  0 Left, 1 Right, 2 Margin, 3 Note")?;
+    match entry(clause.arguments) {
+        Ok(rows) => report::clause(rt, &clause, &rows)?,
         Err(refusal) => println!(rt, "entry row: {refusal}")?,
     }
     Ok(())
+}
+
+// One of the two titles is known when the clause is called, and they share nothing.
+fn entry(arguments: u8) -> Result<Rows, Refusal> {
+    let mut groups = Groups::never(0);
+    Groups::make(arguments, Listing::Sets(&[&[0], &[1]]), &mut groups)?;
+    let mut models = Models::never(0);
+    Models::make(arguments, Listing::Sets(&[&[0], &[1]]), &mut models)?;
+    Ok(Rows { groups, models })
 }
