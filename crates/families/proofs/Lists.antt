@@ -50,7 +50,7 @@ each-below (y ∷ xs) n each x (inr l) = each-below xs n (λ k low. each (suc k)
 
 -- ---- different numbers below n are no more than n
 
-decide-listed : (k : ℕ) (xs : List ℕ) → Listed k xs ⊎ (Listed k xs → ⊥)
+pub decide-listed : (k : ℕ) (xs : List ℕ) → Listed k xs ⊎ (Listed k xs → ⊥)
 decide-listed k [] = inr (λ l. l)
 decide-listed k (x ∷ xs) =
     ⊎-elim (λ e. inl (inl e)) (λ n. ⊎-elim (λ l. inl (inr l)) (λ m. inr (λ l. ⊎-elim n m l)) (decide-listed k xs)) (cases-eq k x)

@@ -1,12 +1,11 @@
 -- The verdicts are exact: a model that speaks against one is that of some described list. Assumes nothing.
-use mathlib.Core.Path.{_≡_, refl, sym, ap, subst, _∙_}
+use mathlib.Core.Path.{_≡_, refl, sym, subst}
 use mathlib.Core.Bool.{Bool, true, false}
-use mathlib.Core.List.{List, [], _∷_}
+use mathlib.Core.List.{List}
 use mathlib.Core.Logic.{_↔_, _⊎_, inl, inr, ⊎-elim}
-use Prim.Native.Nat.{ℕ, zero, suc, _/_, _^_, _<_, _≤_}
+use Prim.Native.Nat.{ℕ, _^_, _<_, _≤_}
 use native.Mathlib.Omega.{arith}
 use lib.Dec.{T}
-use lib.ListN.{length}
 use Rattle.std.proofs.shelf.Tests.{cases-lt}
 use Rattle.domain.specs.Term.{Term, Subst, Occurs, Closed, apply, term-at}
 use Rattle.domain.specs.Term.Term.{var, app}
@@ -19,7 +18,8 @@ use Rattle.rows.specs.Values.{Value, Fits}
 use Rattle.formulas.specs.Formulas.{Grounded, Modelled, Describes, Ground, Apart, formulas}
 use Rattle.domain.proofs.Booleans.{tested}
 use Rattle.domain.proofs.Terms.{place-below}
-use Rattle.families.proofs.Masks.{bit-suc, below-bits}
+use Rattle.families.proofs.Spread.{spread, length-spread, spread-at}
+use Rattle.families.proofs.Masks.{below-bits}
 use Rattle.families.proofs.Ranges.{bit-whole}
 use Rattle.formulas.proofs.Terms.{closed, closed-fact, fact-closed, apply-none, only, only-keeps}
 
@@ -57,17 +57,10 @@ spot true = app 0 end
 spot false = var 0
 
 abbrev row : ℕ → ℕ → List Term
-row zero g = []
-row (suc n) g = spot (bit g 0) ∷ row n (g / 2)
-
-row-length : (n g : ℕ) → length (row n g) ≡ n
-row-length zero g = refl
-row-length (suc n) g = ap suc (row-length n (g / 2))
+row = spread spot
 
 row-at : (n g i : ℕ) → i < n → term-at (row n g) i ≡ spot (bit g i)
-row-at zero g i l = absurd (omega arith)
-row-at (suc n) g zero l = refl
-row-at (suc n) g (suc i) l = row-at n (g / 2) i (omega arith) ∙ ap spot (sym (bit-suc g i))
+row-at = spread-at spot (app 0 end)
 
 spot-constant : (s : Subst) (b : Bool) → T b → Closed (apply s (spot b))
 spot-constant s true t u o = o
@@ -95,14 +88,14 @@ module _ (n g : ℕ) (s : Subst) where
 
   row-whole : Closed (s 0) → Grounded (row n g) s (whole n)
   row-whole c i =
-      let e = row-length n g in (
+      let e = length-spread spot n g in (
         λ b. let l = bit-whole n i .0 b in (omega arith, at-row i l (spot-closed s (bit g i) c)),
         λ h. let l = h .0 in bit-whole n i .1 (omega arith),
       )
 
   row-model : g < 2 ^ n → (Closed (s 0) → ⊥) → Grounded (row n g) s g
   row-model fit opened i =
-      let e = row-length n g in (
+      let e = length-spread spot n g in (
         λ b.
             let l : i < n = ⊎-elim (λ l. l) (λ m. absurd (below-bits n g i fit m b)) (cases-lt i n) in
             (omega arith, at-row i l (spot-constant s (bit g i) b)),
@@ -114,7 +107,7 @@ module _ (n g : ℕ) (s : Subst) where
 
 -- where s closes the variable all places are closed, and else those of the model
 row-described : (a : Value) → Fits a → Cored Full a → (g : ℕ) → T (a .has g) → Describes a (row (a .width) g)
-row-described a fits cored g held = (row-length (a .width) g, λ s. ⊎-elim (all s) (some s) (tested (closed (s 0))))
+row-described a fits cored g held = (length-spread spot (a .width) g, λ s. ⊎-elim (all s) (some s) (tested (closed (s 0))))
   where
     all : (s : Subst) → T (closed (s 0)) → Modelled a (row (a .width) g) s
     all s c = record { g = whole (a .width); held = cored g held; exact = row-whole (a .width) g s (closed-fact (s 0) c) }

@@ -2,13 +2,17 @@
 -- Assumes nothing.
 use mathlib.Core.Path.{_≡_, sym, subst}
 use mathlib.Core.Bool.{Bool, _&&_}
+use mathlib.Core.List.{List}
 use Prim.Native.Nat.{ℕ, _^_, _<_, _≤_, min}
 use native.Mathlib.Omega.{arith}
 use lib.Dec.{T, ltb, ltb→lt, lt→ltb}
-use Rattle.domain.specs.Variables.{widest}
+use lib.ListN.{take}
+use Rattle.std.proofs.shelf.Lists.{take-all}
+use Rattle.domain.specs.Variables.{Below, Different, widest}
 use Rattle.domain.proofs.Booleans.{and-split, and-pair}
 use Rattle.families.specs.declared.family.Family.{Family}
 use Rattle.families.specs.Words.{holds}
+use Rattle.families.proofs.Lists.{different-few}
 use Rattle.rows.specs.declared.row.Core.{Core}
 use Rattle.rows.specs.declared.row.Row.{Row}
 use Rattle.rows.specs.Rows.{core, Cored, read, read-has, read-width}
@@ -54,6 +58,13 @@ pub read-cored : (c : Core) (r : Row) → Cored c (read c r)
 read-cored c r g t =
     let there = read-to c r g t .1 in
     read-from c r (core c (read-width r)) (core-low c (read-width r), there, there)
+
+-- different variables of a value are no more than the largest width, so that none is left out
+pub all-taken : (r : Row) (xs : List ℕ) → Below (read-width r) xs → Different xs → take widest xs ≡ xs
+all-taken r xs below different =
+    let few = different-few (read-width r) xs below different in
+    let narrow = read-narrow r in
+    take-all widest xs (omega arith)
 
 -- ---- a lawful value that lies there is read
 

@@ -1,12 +1,11 @@
 -- The verdicts are exact: a group that speaks against one is that of a variable of some described list. Assumes nothing.
-use mathlib.Core.Path.{_≡_, refl, sym, ap, subst, _∙_}
+use mathlib.Core.Path.{_≡_, refl, sym, subst}
 use mathlib.Core.Bool.{Bool, true, false}
-use mathlib.Core.List.{List, [], _∷_}
+use mathlib.Core.List.{List}
 use mathlib.Core.Logic.{⊎-elim, _↔_}
-use Prim.Native.Nat.{ℕ, zero, suc, _/_, _^_, _<_}
+use Prim.Native.Nat.{ℕ, _^_, _<_}
 use native.Mathlib.Omega.{arith}
 use lib.Dec.{T}
-use lib.ListN.{length}
 use Rattle.std.proofs.shelf.Tests.{cases-eq, cases-lt}
 use Rattle.domain.specs.Model.{Always-ground, Always-apart}
 use Rattle.domain.specs.Term.{Term, Occurs, term-at}
@@ -17,7 +16,8 @@ use Rattle.rows.specs.declared.row.Core.the-variants.{Empty}
 use Rattle.rows.specs.Rows.{Cored}
 use Rattle.rows.specs.Values.{Value, Fits}
 use Rattle.sharing.specs.Sharing.{sharing, Grouped, Describes, Ground, Apart}
-use Rattle.families.proofs.Masks.{below-bits, zero-bits, bit-suc}
+use Rattle.families.proofs.Spread.{spread, length-spread, spread-at}
+use Rattle.families.proofs.Masks.{below-bits, zero-bits}
 use Rattle.domain.proofs.Terms.{place-below}
 
 pub ground-holds : (a : Value) (x : ℕ) → Ground a x → Always-ground sharing a x
@@ -43,17 +43,10 @@ spot-held true u o = (o, tt)
 spot-held false u o = elim o [ ]
 
 abbrev row : ℕ → ℕ → List Term
-row zero g = []
-row (suc n) g = spot (bit g 0) ∷ row n (g / 2)
-
-row-length : (n g : ℕ) → length (row n g) ≡ n
-row-length zero g = refl
-row-length (suc n) g = ap suc (row-length n (g / 2))
+row = spread spot
 
 row-at : (n g i : ℕ) → i < n → term-at (row n g) i ≡ spot (bit g i)
-row-at zero g i l = absurd (omega arith)
-row-at (suc n) g zero l = refl
-row-at (suc n) g (suc i) l = row-at n (g / 2) i (omega arith) ∙ ap spot (sym (bit-suc g i))
+row-at = spread-at spot (app 0 end)
 
 -- what occurs in it
 row-holds : (n g i : ℕ) → g < 2 ^ n → T (bit g i) → Occurs 0 (term-at (row n g) i)
@@ -64,7 +57,7 @@ row-holds n g i fit b =
 row-held : (n g i u : ℕ) → Occurs u (term-at (row n g) i) → (u ≡ 0) × T (bit g i)
 row-held n g i u o =
     let l = place-below (row n g) i u o in
-    let e = row-length n g in
+    let e = length-spread spot n g in
     spot-held (bit g i) u (subst (λ (t : Term). Occurs u t) (row-at n g i (omega arith)) o)
 
 module _ (a : Value) (fits : Fits a) (full : Cored Empty a) (g : ℕ) (held : T (a .has g)) where
@@ -87,7 +80,7 @@ module _ (a : Value) (fits : Fits a) (full : Cored Empty a) (g : ℕ) (held : T 
       (cases-eq u 0)
 
   row-described : Describes a (row (a .width) g)
-  row-described = (row-length (a .width) g, row-group)
+  row-described = (length-spread spot (a .width) g, row-group)
 
 pub ground-exact : (a : Value) (x : ℕ) → Fits a → Cored Empty a → Ground a x ↔ Always-ground sharing a x
 ground-exact a x fits full = (

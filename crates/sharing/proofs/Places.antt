@@ -8,7 +8,7 @@ use native.Mathlib.Omega.{arith}
 use lib.Dec.{T, eqb, eqb-refl, leb, le→leb}
 use lib.ListN.{length, length-map, length-append, List·getD-append}
 use Rattle.std.proofs.shelf.Lists.{getD-append-right}
-use Rattle.std.proofs.shelf.Tests.{cases-eq, cases-lt}
+use Rattle.std.proofs.shelf.Tests.{cases-lt}
 use Rattle.domain.specs.Variables.{Listed, Different}
 use Rattle.domain.specs.Term.{Term, Occurs, Inside, term-at, pick}
 use Rattle.domain.specs.Term.Term.{var, app}
@@ -18,6 +18,7 @@ use Rattle.rows.specs.Values.{Value, viewed}
 use Rattle.sharing.specs.Sharing.{Grouped, Describes, entered}
 use Rattle.domain.proofs.Booleans.{and-pair, or-left, or-right}
 use Rattle.families.proofs.Tests.{some-any}
+use Rattle.families.proofs.Lists.{decide-listed}
 use Rattle.families.proofs.Masks.{bit-power, power-bit}
 use Rattle.rows.proofs.Values.{some-viewed}
 use Rattle.domain.proofs.Terms.{inside-at, place-below}
@@ -38,11 +39,6 @@ view-describes a xs ts described = (
 )
 
 -- ---- enter: a list of variables
-
-decide-listed : (u : ℕ) (us : List ℕ) → Listed u us ⊎ (Listed u us → ⊥)
-decide-listed u [] = inr (λ l. l)
-decide-listed u (z ∷ us) =
-    ⊎-elim (λ e. inl (inl e)) (λ n. ⊎-elim (λ l. inl (inr l)) (λ m. inr (λ l. ⊎-elim n m l)) (decide-listed u us)) (cases-eq u z)
 
 occurs-listed : (us : List ℕ) (u i : ℕ) → Occurs u (term-at (map var us) i) → Listed u us
 occurs-listed [] u i o = o
