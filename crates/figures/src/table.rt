@@ -1,4 +1,4 @@
-// The table of figures.
+// The table of figures, in the order of docs/FIGURES.md.
 ghost use Rattle.figures.specs.Figures.{Stands};
 use super::figure::Figure;
 use super::figure::Function::Back;

@@ -10,7 +10,8 @@ use Rattle.families.specs.Masks.{whole, cut}
 use Rattle.rows.specs.declared.row.Core.the-variants.{Full}
 use Rattle.rows.specs.Rows.{Cored}
 use Rattle.rows.specs.Values.{Value, Fits}
-use Rattle.formulas.specs.Formulas.{tied, entered, backed, unknown}
+use Rattle.formulas.specs.Formulas.{tied, entered, backed}
+use Rattle.formulas.specs.Bounds.{unknown}
 use Rattle.domain.proofs.Booleans.{and-split, and-pair}
 use Rattle.families.proofs.Ranges.{bit-whole, cut-whole, low-whole}
 use Rattle.formulas.proofs.Rules.{tied-rule, backed-rule}

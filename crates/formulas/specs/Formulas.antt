@@ -9,7 +9,6 @@ use Prim.Native.Nat.{ℕ, _%_, _^_, _<_}
 use lib.Dec.{T, ltb}
 use lib.ListN.{length}
 use Rattle.domain.specs.Term.{Term, Subst, Closed, apply, term-at}
-use Rattle.domain.specs.Variables.{Below}
 use Rattle.domain.specs.Model.{Model}
 use Rattle.families.specs.Masks.{bit, cut, covers}
 use Rattle.rows.specs.declared.row.Core.the-variants.{Full}
@@ -59,18 +58,6 @@ backed-has a args b g = a .has g && b .has (cut args g)
 
 abbrev pub backed : Value → List ℕ → Value → Value
 backed a args b = record { width = a .width; has = backed-has a args b }
-
--- b describes what a call with these arguments of a's may return
-abbrev pub Matches : Value → List ℕ → Value → Type 0
-Matches a args b = Below (a .width) args × (b .width ≡ length args)
-
--- every set of variables is a model: nothing is known
-abbrev pub unknown : ℕ → Value
-unknown n = record { width = n; has = λ g. ltb g (2 ^ n) }
-
--- at variables past the width nothing is known
-abbrev pub View-past : Value → List ℕ → Value → Type 0
-View-past a xs r = (Below (a .width) xs → ⊥) → r ≡ unknown (length xs)
 
 -- ---- the verdicts
 

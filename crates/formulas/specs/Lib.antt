@@ -1,2 +1,3 @@
 pub mod Formulas
 pub mod Rules
+pub mod Bounds

@@ -8,8 +8,9 @@ ghost use Rattle.domain.specs.Variables.{widest};
 ghost use Rattle.rows.specs.declared.row.Core.the-variants.{Full};
 ghost use Rattle.rows.specs.Rows.{View-reads, View-follows};
 ghost use Rattle.rows.specs.Values.{Under, never as none, joined, rank as size};
-ghost use Rattle.formulas.specs.Formulas.{formulas as the-model, read, tied, entered, backed, Matches, View-past};
-ghost use Rattle.formulas.specs.Rules.{Tie-rule, Enter-rule, Back-rule};
+ghost use Rattle.formulas.specs.Formulas.{formulas as the-model, read, entered};
+ghost use Rattle.formulas.specs.Rules.{Enter-rule};
+ghost use Rattle.formulas.specs.Bounds.{Tie-reads, Tie-follows, View-past, Matches, Back-reads, Back-follows, Ground-follows, Apart-follows};
 use super::models::Models;
 use domain::Domain;
 use domain::Exact;
@@ -54,8 +55,8 @@ pub impl Domain for Models as FormulasDomain {
 
     // A variable past the width leaves the value as it is.
     fn tie(&self, x: u8, ys: &[u8]) -> Models
-        ensures reads { λ r. ⌜ (Sides the-model (read (now (self .entry))) x (now (ys .entry)) → read r ≡ tied (read (now (self .entry))) x (now (ys .entry))) ⌝ }
-        ensures rule { λ r. ⌜ (Sides the-model (read (now (self .entry))) x (now (ys .entry)) → Tie-rule (read (now (self .entry))) x (now (ys .entry)) (read r)) ⌝ }
+        ensures reads { λ r. ⌜ Tie-reads (read (now (self .entry))) x (now (ys .entry)) (read r) ⌝ }
+        ensures rule { λ r. ⌜ Tie-follows (read (now (self .entry))) x (now (ys .entry)) (read r) ⌝ }
         ensures past { λ r. ⌜ ((Sides the-model (read (now (self .entry))) x (now (ys .entry)) → ⊥) → r ≡ now (self .entry)) ⌝ }
     {
         self.tied(&self.models(), x, ys)
@@ -81,8 +82,8 @@ pub impl Domain for Models as FormulasDomain {
     // Of more arguments than the largest width, the first count; where one is past the width, or `end` has another number
     // of places, the value stays as it is.
     fn back(&self, args: &[u8], end: &Models) -> Models
-        ensures reads { λ r. ⌜ (Matches (read (now (self .entry))) (take widest (now (args .entry))) (read (now (end .entry))) → read r ≡ backed (read (now (self .entry))) (take widest (now (args .entry))) (read (now (end .entry)))) ⌝ }
-        ensures rule { λ r. ⌜ (Matches (read (now (self .entry))) (take widest (now (args .entry))) (read (now (end .entry))) → Back-rule (read (now (self .entry))) (take widest (now (args .entry))) (read (now (end .entry))) (read r)) ⌝ }
+        ensures reads { λ r. ⌜ Back-reads (read (now (self .entry))) (take widest (now (args .entry))) (read (now (end .entry))) (read r) ⌝ }
+        ensures rule { λ r. ⌜ Back-follows (read (now (self .entry))) (take widest (now (args .entry))) (read (now (end .entry))) (read r) ⌝ }
         ensures past { λ r. ⌜ ((Matches (read (now (self .entry))) (take widest (now (args .entry))) (read (now (end .entry))) → ⊥) → r ≡ now (self .entry)) ⌝ }
     {
         self.backed(&self.models(), args, end, &end.models())
@@ -90,6 +91,7 @@ pub impl Domain for Models as FormulasDomain {
 
     // Past the width a list has no variable.
     fn ground(&self, x: u8) -> bool
+        ensures rule { λ r. ⌜ Ground-follows (read (now (self .entry))) x r ⌝ }
         ensures always { λ r. ⌜ (T r → Always-ground the-model (read (now (self .entry))) x) ⌝ }
         ensures exact { λ r. ⌜ (Always-ground the-model (read (now (self .entry))) x → T r) ⌝ }
     {
@@ -97,6 +99,7 @@ pub impl Domain for Models as FormulasDomain {
     }
 
     fn apart(&self, x: u8, y: u8) -> bool
+        ensures rule { λ r. ⌜ Apart-follows (read (now (self .entry))) x y r ⌝ }
         ensures always { λ r. ⌜ (T r → Always-apart the-model (read (now (self .entry))) x y) ⌝ }
         ensures exact { λ r. ⌜ (Always-apart the-model (read (now (self .entry))) x y → T r) ⌝ }
     {

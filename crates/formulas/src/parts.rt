@@ -6,8 +6,9 @@ ghost use Rattle.domain.specs.Model.{Sides, Room, Always-ground, Always-apart};
 ghost use Rattle.domain.specs.Variables.{widest, Below as InRange};
 ghost use Rattle.rows.specs.declared.row.Core.the-variants.{Full};
 ghost use Rattle.rows.specs.Rows.{read as read-row, Off, View-reads, View-follows};
-ghost use Rattle.formulas.specs.Formulas.{formulas as the-model, read, tied as the-tie, entered as the-entry, backed as the-return, unknown, Matches, View-past};
-ghost use Rattle.formulas.specs.Rules.{Tie-rule, Enter-rule, Back-rule};
+ghost use Rattle.formulas.specs.Formulas.{formulas as the-model, read, entered as the-entry};
+ghost use Rattle.formulas.specs.Rules.{Enter-rule};
+ghost use Rattle.formulas.specs.Bounds.{Tie-reads, Tie-follows, unknown, View-past, Matches, Back-reads, Back-follows, Ground-follows, Apart-follows};
 use super::filters::Agrees;
 use super::filters::AgreesTest;
 use super::filters::Extends;
@@ -44,8 +45,8 @@ impl Models {
     // The models that have x exactly when they have all of ys.
     pub(crate) fn tied(&self, models: &Family, x: u8, ys: &[u8]) -> Models
         requires { ⌜ Off Full (now self .row) (now models) ⌝ }
-        ensures reads { λ r. ⌜ (Sides the-model (read (now (self .entry))) x (now (ys .entry)) → read r ≡ the-tie (read (now (self .entry))) x (now (ys .entry))) ⌝ }
-        ensures rule { λ r. ⌜ (Sides the-model (read (now (self .entry))) x (now (ys .entry)) → Tie-rule (read (now (self .entry))) x (now (ys .entry)) (read r)) ⌝ }
+        ensures reads { λ r. ⌜ Tie-reads (read (now (self .entry))) x (now (ys .entry)) (read r) ⌝ }
+        ensures rule { λ r. ⌜ Tie-follows (read (now (self .entry))) x (now (ys .entry)) (read r) ⌝ }
         ensures past { λ r. ⌜ ((Sides the-model (read (now (self .entry))) x (now (ys .entry)) → ⊥) → r ≡ now (self .entry)) ⌝ }
     {
         if !self.has_sides(x, ys) {
@@ -102,8 +103,8 @@ impl Models {
     pub(crate) fn backed(&self, models: &Family, args: &[u8], end: &Models, ends: &Family) -> Models
         requires models { ⌜ Off Full (now self .row) (now models) ⌝ }
         requires ends { ⌜ Off Full (now end .row) (now ends) ⌝ }
-        ensures reads { λ r. ⌜ (Matches (read (now (self .entry))) (take widest (now (args .entry))) (read (now (end .entry))) → read r ≡ the-return (read (now (self .entry))) (take widest (now (args .entry))) (read (now (end .entry)))) ⌝ }
-        ensures rule { λ r. ⌜ (Matches (read (now (self .entry))) (take widest (now (args .entry))) (read (now (end .entry))) → Back-rule (read (now (self .entry))) (take widest (now (args .entry))) (read (now (end .entry))) (read r)) ⌝ }
+        ensures reads { λ r. ⌜ Back-reads (read (now (self .entry))) (take widest (now (args .entry))) (read (now (end .entry))) (read r) ⌝ }
+        ensures rule { λ r. ⌜ Back-follows (read (now (self .entry))) (take widest (now (args .entry))) (read (now (end .entry))) (read r) ⌝ }
         ensures past { λ r. ⌜ ((Matches (read (now (self .entry))) (take widest (now (args .entry))) (read (now (end .entry))) → ⊥) → r ≡ now (self .entry)) ⌝ }
     {
         if !self.matches(args, end) {
@@ -120,6 +121,7 @@ impl Models {
     // Whether every model has x; past the width a list has no variable.
     pub(crate) fn all_have(&self, models: &Family, x: u8) -> bool
         requires { ⌜ Off Full (now self .row) (now models) ⌝ }
+        ensures rule { λ r. ⌜ Ground-follows (read (now (self .entry))) x r ⌝ }
         ensures always { λ r. ⌜ (T r → Always-ground the-model (read (now (self .entry))) x) ⌝ }
         ensures exact { λ r. ⌜ (Always-ground the-model (read (now (self .entry))) x → T r) ⌝ }
     {
@@ -129,6 +131,7 @@ impl Models {
     // Whether every model has x or y; past the width a list has no variable.
     pub(crate) fn all_have_one(&self, models: &Family, x: u8, y: u8) -> bool
         requires { ⌜ Off Full (now self .row) (now models) ⌝ }
+        ensures rule { λ r. ⌜ Apart-follows (read (now (self .entry))) x y r ⌝ }
         ensures always { λ r. ⌜ (T r → Always-apart the-model (read (now (self .entry))) x y) ⌝ }
         ensures exact { λ r. ⌜ (Always-apart the-model (read (now (self .entry))) x y → T r) ⌝ }
     {

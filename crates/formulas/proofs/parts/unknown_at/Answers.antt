@@ -10,7 +10,7 @@ use Rattle.domain.specs.Variables.{widest}
 use Rattle.families.specs.Words.{sets}
 use Rattle.rows.specs.declared.row.Core.the-variants.{Full}
 use Rattle.rows.proofs.Reading.{stored}
-use Rattle.formulas.specs.Formulas.{unknown}
+use Rattle.formulas.specs.Bounds.{unknown}
 use Rattle.formulas.proofs.Closure.{unknown-fits, unknown-cored}
 use Rattle.formulas.proofs.parts.unknown_at.Needs as need
 

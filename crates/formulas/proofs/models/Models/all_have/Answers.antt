@@ -19,7 +19,7 @@ pub returns-then-x-width : need.returns-then-x-width
 returns-then-x-width c =
     let a = read (c .args .self .now) in
     let wide = c .width .ensures in
-    record { always = λ t. always-past a (c .args .x) (omega arith); exact = λ always. le→leb (c .width .result) (c .args .x) (omega arith) }
+    record { rule = λ l. absurd (omega arith); always = λ t. always-past a (c .args .x) (omega arith); exact = λ always. le→leb (c .width .result) (c .args .x) (omega arith) }
 
 pub returns-else-x-width : need.returns-else-x-width
 returns-else-x-width c =
@@ -48,4 +48,4 @@ returns-else-x-width c =
     (λ t.
     let (here, m) = and-split (holds f g) (not (overlaps g (alone x))) (subst T (left-is g) t) in
     T-not (overlaps g (alone x)) m (overlaps-alone g (holds-low f g here) x .1 (ground g (subst T (c .pre g) here)))) (λ t. absurd t)) in
-    record { always = λ t. exact .0 (yes t); exact = λ always. only (exact .1 always) }
+    record { rule = λ l. (yes, only); always = λ t. exact .0 (yes t); exact = λ always. only (exact .1 always) }

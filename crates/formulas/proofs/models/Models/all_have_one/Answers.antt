@@ -25,7 +25,7 @@ returns-then-max-width c =
     let wide = c .width-width .ensures in
     let larger = c .max .ensures in
     let one : (a .width ≤ x) ⊎ (a .width ≤ y) = ⊎-elim (λ l. inr (omega arith)) (λ l. inl (omega arith)) (cases-lt x y) in
-    record { always = λ t. apart-past a x y one; exact = λ always. tt }
+    record { rule = λ l m. absurd (omega arith); always = λ t. apart-past a x y one; exact = λ always. tt }
 
 pub returns : need.returns
 returns c =
@@ -59,4 +59,4 @@ returns c =
     T-not (overlaps g either) m
     (overlaps-or g (alone x) (alone y) .1
     (⊎-elim (λ b. inl (overlaps-alone g low x .1 b)) (λ b. inr (overlaps-alone g low y .1 b)) (apart g (subst T (c .pre g) here))))) (λ t. absurd t)) in
-    record { always = λ t. exact .0 (yes t); exact = λ always. only (exact .1 always) }
+    record { rule = λ l m. (yes, only); always = λ t. exact .0 (yes t); exact = λ always. only (exact .1 always) }
