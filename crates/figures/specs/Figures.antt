@@ -52,11 +52,7 @@ Agree (suc n) p q = (p n ≡ q n) × Agree n p q
 abbrev pub Same : Value → Value → Type 0
 Same a b = (a .width ≡ b .width) × Agree (2 ^ a .width) (a .has) (b .has)
 
--- every figure has the value expected, where `by` says what the functions give
-abbrev pub Right : (Kind → Function → Value → Value) → List Figure → Type 0
-Right by [] = Unit {0}
-Right by (f ∷ fs) = Same (by (f .kind) (f .function) (value (f .given))) (value (f .expected)) × Right by fs
-
--- every figure stands
+-- every figure stands: its function gives the value expected
 abbrev pub Stands : List Figure → Type 0
-Stands fs = Right gives fs
+Stands [] = Unit {0}
+Stands (f ∷ fs) = Same (gives (f .kind) (f .function) (value (f .given))) (value (f .expected)) × Stands fs

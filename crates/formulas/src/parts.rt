@@ -135,8 +135,7 @@ impl Models {
         ensures always { λ r. ⌜ (T r → Always-apart the-model (read (now (self .entry))) x y) ⌝ }
         ensures exact { λ r. ⌜ (Always-apart the-model (read (now (self .entry))) x y → T r) ⌝ }
     {
-        let width = self.width();
-        if x.max(y) >= width {
+        if x.max(y) >= self.width() {
             return true;
         }
         models.missing(mask::only(x) | mask::only(y)).is_empty()

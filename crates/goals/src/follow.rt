@@ -1,28 +1,24 @@
 // What goals do to a row, in any domain, and which of them may run side by side there, in any whose verdicts are exact.
 ghost use mathlib.Core.Path.{_≡_};
-ghost use mathlib.Core.Bool.{false};
 ghost use mathlib.Core.List.{_∷_, []};
 ghost use Prim.Native.Nat.{_<_};
 ghost use lib.Dec.{T};
 ghost use Rattle.domain.specs.Variables.{Below as InRange};
-ghost use Rattle.goals.specs.Goals.{left-of, right-of, variables, Inside, Ties, Apart-all, Goals-apart};
+ghost use Rattle.goals.specs.Goals.{left-of, right-of, variables, Inside, After, Apart-all, Side};
 use super::goal::Goal;
 use domain::Domain;
 use domain::Exact;
 
 // The row after the goal; a goal with a variable past the width leaves it as it is.
 pub fn after<D: Domain>(row: &D, goal: &Goal) -> D
-    ensures ties { λ r. ⌜ (Inside (D·Domain .model) (now (row .entry)) (now (goal .entry)) → Ties (D·Domain .model) (now (row .entry)) (now (goal .entry)) r) ⌝ }
-    ensures past { λ r. ⌜ ((Inside (D·Domain .model) (now (row .entry)) (now (goal .entry)) → ⊥) → r ≡ now (row .entry)) ⌝ }
+    ensures { λ r. ⌜ After (D·Domain .model) (now (row .entry)) (now (goal .entry)) r ⌝ }
 {
     tied(row, goal, goal.left(), goal.right())
 }
 
 // Whether no variable of the one goal shares with one of the other; no, where one is past the width.
 pub fn side<D: Exact>(row: &D, first: &Goal, second: &Goal) -> bool
-    ensures yes { λ r. ⌜ (T r → Goals-apart (D·Domain .model) (now (row .entry)) (now (first .entry)) (now (second .entry))) ⌝ }
-    ensures only { λ r. ⌜ (Inside (D·Domain .model) (now (row .entry)) (now (first .entry)) → Inside (D·Domain .model) (now (row .entry)) (now (second .entry)) → Goals-apart (D·Domain .model) (now (row .entry)) (now (first .entry)) (now (second .entry)) → T r) ⌝ }
-    ensures past { λ r. ⌜ ((Inside (D·Domain .model) (now (row .entry)) (now (first .entry)) → Inside (D·Domain .model) (now (row .entry)) (now (second .entry)) → ⊥) → r ≡ false) ⌝ }
+    ensures { λ r. ⌜ Side (D·Domain .model) (now (row .entry)) (now (first .entry)) (now (second .entry)) r ⌝ }
 {
     goals_apart(row, first, first.left(), first.right(), second)
 }
@@ -30,8 +26,7 @@ pub fn side<D: Exact>(row: &D, first: &Goal, second: &Goal) -> bool
 fn tied<D: Domain>(row: &D, goal: &Goal, x: u8, ys: &[u8]) -> D
     requires x { ⌜ x ≡ left-of (now goal) ⌝ }
     requires ys { ⌜ now ys ≡ right-of (now goal) ⌝ }
-    ensures ties { λ r. ⌜ (Inside (D·Domain .model) (now (row .entry)) (now (goal .entry)) → Ties (D·Domain .model) (now (row .entry)) (now (goal .entry)) r) ⌝ }
-    ensures past { λ r. ⌜ ((Inside (D·Domain .model) (now (row .entry)) (now (goal .entry)) → ⊥) → r ≡ now (row .entry)) ⌝ }
+    ensures { λ r. ⌜ After (D·Domain .model) (now (row .entry)) (now (goal .entry)) r ⌝ }
 {
     if goal.within(row.width()) {
         row.tie(x, ys)
@@ -43,9 +38,7 @@ fn tied<D: Domain>(row: &D, goal: &Goal, x: u8, ys: &[u8]) -> D
 fn goals_apart<D: Exact>(row: &D, first: &Goal, x: u8, xs: &[u8], second: &Goal) -> bool
     requires x { ⌜ x ≡ left-of (now first) ⌝ }
     requires xs { ⌜ now xs ≡ right-of (now first) ⌝ }
-    ensures yes { λ r. ⌜ (T r → Goals-apart (D·Domain .model) (now (row .entry)) (now (first .entry)) (now (second .entry))) ⌝ }
-    ensures only { λ r. ⌜ (Inside (D·Domain .model) (now (row .entry)) (now (first .entry)) → Inside (D·Domain .model) (now (row .entry)) (now (second .entry)) → Goals-apart (D·Domain .model) (now (row .entry)) (now (first .entry)) (now (second .entry)) → T r) ⌝ }
-    ensures past { λ r. ⌜ ((Inside (D·Domain .model) (now (row .entry)) (now (first .entry)) → Inside (D·Domain .model) (now (row .entry)) (now (second .entry)) → ⊥) → r ≡ false) ⌝ }
+    ensures { λ r. ⌜ Side (D·Domain .model) (now (row .entry)) (now (first .entry)) (now (second .entry)) r ⌝ }
 {
     if !first.within(row.width()) {
         return false;

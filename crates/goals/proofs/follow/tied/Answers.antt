@@ -20,16 +20,14 @@ pub returns-then-within : need.returns-then-within
 returns-then-within g c =
     let goal = c .args .goal .now in
     let m = g .D·Domain .model in
-    let a = m .read (c .args .row .now) in
-    record {
-      ties = λ inside. c .tie .ensures ∙ ap₂ (m .tied a) (c .pre .x) (c .pre .ys);
-      past = λ no. absurd (no (subst (λ (n : ℕ). Below n (variables goal)) (c .width .ensures) (c .if-within .ensures tt .yes tt)));
-    }
+    let a = m .read (c .args .row .now) in (
+      λ inside. c .tie .ensures ∙ ap₂ (m .tied a) (c .pre .x) (c .pre .ys),
+      λ no. absurd (no (subst (λ (n : ℕ). Below n (variables goal)) (c .width .ensures) (c .if-within .ensures tt .yes tt))),
+    )
 
 pub returns-else-within : need.returns-else-within
 returns-else-within g c =
-    let goal = c .args .goal .now in
-    record {
-      ties = λ inside. absurd (c .if-within .ensures tt .only (subst (λ (n : ℕ). Below n (variables goal)) (sym (c .width .ensures)) inside));
-      past = λ no. refl;
-    }
+    let goal = c .args .goal .now in (
+      λ inside. absurd (c .if-within .ensures tt .only (subst (λ (n : ℕ). Below n (variables goal)) (sym (c .width .ensures)) inside)),
+      λ no. refl,
+    )

@@ -22,7 +22,7 @@ returns-then-max-width c =
     let a = read (c .args .self .now) in
     let x : ℕ = c .args .x in
     let y : ℕ = c .args .y in
-    let wide = c .width-width .ensures in
+    let wide = c .width .ensures in
     let larger = c .max .ensures in
     let one : (a .width ≤ x) ⊎ (a .width ≤ y) = ⊎-elim (λ l. inr (omega arith)) (λ l. inl (omega arith)) (cases-lt x y) in
     record { rule = λ l m. absurd (omega arith); always = λ t. apart-past a x y one; exact = λ always. tt }
@@ -38,8 +38,8 @@ returns c =
     let left = holds (c .missing .result) in
     let left-is : (g : ℕ) → left g ≡ (holds f g && not (overlaps g either)) =
     subst (λ (m : ℕ). (g : ℕ) → left g ≡ (holds f g && not (overlaps g m))) (ap₂ bitOr (c .only .ensures) (c .only-2 .ensures)) (c .missing .ensures) in
-    let inside : x < a .width = let wide = c .width-width .ensures in let larger = c .max .ensures in omega arith in
-    let inside-y : y < a .width = let wide = c .width-width .ensures in let larger = c .max .ensures in omega arith in
+    let inside : x < a .width = let wide = c .width .ensures in let larger = c .max .ensures in omega arith in
+    let inside-y : y < a .width = let wide = c .width .ensures in let larger = c .max .ensures in omega arith in
     let exact = apart-exact a x y (read-fits Full (v .row)) (read-cored Full (v .row)) inside inside-y in
     let yes : T (c .is-empty .result) → Apart a x y = λ t g held.
     let here : T (holds f g) = subst T (sym (c .pre g)) held in
