@@ -8,6 +8,7 @@ ghost use Rattle.domain.specs.Variables.{widest, Below as InRange, Different};
 ghost use Rattle.domain.specs.Model.{Model, Lawful, Exact as Exactly};
 
 mod refusal;
+pub mod variables;
 
 pub use refusal::Refusal;
 pub use refusal::RefusalDebug;

@@ -13,7 +13,7 @@ use lib.Pow.{pow-pos, field, mod-mod-pow}
 use Rattle.domain.specs.Variables.{Below}
 use Rattle.domain.proofs.Booleans.{and-split, and-pair}
 use Rattle.families.specs.Masks.{bit, whole, cut}
-use Rattle.families.proofs.Lists.{listed-at, each-below}
+use Rattle.domain.proofs.Lists.{listed-at, each-below}
 use Rattle.families.proofs.Masks.{bit-suc, odd-from-bit, bit-from-odd, zero-bits, one-mask, bit-and, bit-cut}
 
 -- ---- the bits of a mask below n

@@ -9,6 +9,7 @@ use super::mask;
 use super::mask::Mask;
 use domain::Refusal;
 use domain::WIDEST;
+use domain::variables;
 
 // No set at all, or those listed; their order counts for nothing, nor does it count how often something is listed.
 #[derive(Clone, Copy)]
@@ -46,7 +47,7 @@ fn within(sets: &[&[u8]], n: u8) -> bool
     ensures only { λ r. ⌜ (Within n (now (sets .entry)) → T r) ⌝ }
 {
     for set in sets {
-        if !mask::below(set, n) {
+        if !variables::below(set, n) {
             return false;
         }
     }

@@ -1,9 +1,8 @@
 // A set of variables as a mask: variable i is in it where bit i is 1.
 ghost use mathlib.Core.Path.{_≡_};
 ghost use Prim.Native.Nat.{_<_, min};
-ghost use lib.Dec.{T};
 ghost use lib.ListN.{take};
-ghost use Rattle.domain.specs.Variables.{widest, Below as InRange};
+ghost use Rattle.domain.specs.Variables.{widest};
 ghost use Rattle.families.specs.MaskLaws.{Same-law, Alone-law, Whole-law, Coded-law, Cut-law, Meets-law, Covers-law, Overlaps-law};
 ghost use Rattle.families.specs.Masks.{bit, alone, whole, coded, cut as cut-down};
 use domain::WIDEST;
@@ -64,19 +63,6 @@ pub(crate) fn cut(g: Mask, xs: &[u8]) -> Mask
         }
     }
     places
-}
-
-// Whether each variable listed is below n.
-pub fn below(xs: &[u8], n: u8) -> bool
-    ensures yes { λ r. ⌜ (T r → InRange n (now (xs .entry))) ⌝ }
-    ensures only { λ r. ⌜ (InRange n (now (xs .entry)) → T r) ⌝ }
-{
-    for x in xs {
-        if *x >= n {
-            return false;
-        }
-    }
-    true
 }
 
 // The definitions that the contracts here and above cite, in plain words.

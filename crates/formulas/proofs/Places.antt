@@ -14,7 +14,7 @@ use Rattle.domain.specs.Term.Terms.{end}
 use Rattle.families.specs.Masks.{whole, pack, cut}
 use Rattle.rows.specs.Values.{Value}
 use Rattle.formulas.specs.Formulas.{Grounded, Describes}
-use Rattle.families.proofs.Lists.{listed-at}
+use Rattle.domain.proofs.Lists.{listed-at}
 use Rattle.families.proofs.Masks.{one-mask, bits-below, bit-pack, bit-cut}
 use Rattle.families.proofs.Ranges.{bit-whole}
 use Rattle.formulas.proofs.Terms.{closed, closed-fact, fact-closed, nothing-left, nothing-closed, chain, applied-chain}

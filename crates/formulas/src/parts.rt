@@ -16,6 +16,7 @@ use super::filters::ExtendsTest;
 use super::formulas::FormulasDomain;
 use super::models::Models;
 use domain::Domain;
+use domain::variables;
 use families::Family;
 use families::mask;
 use rows::Core;
@@ -146,7 +147,7 @@ impl Models {
         ensures yes { λ r. ⌜ (T r → Sides the-model (read (now (self .entry))) x (now (ys .entry))) ⌝ }
         ensures only { λ r. ⌜ (Sides the-model (read (now (self .entry))) x (now (ys .entry)) → T r) ⌝ }
     {
-        x < self.width() && mask::below(ys, self.width())
+        x < self.width() && variables::below(ys, self.width())
     }
 
     // Whether the first variables listed are variables of the value.
@@ -154,7 +155,7 @@ impl Models {
         ensures yes { λ r. ⌜ (T r → InRange (read (now (self .entry)) .width) (take widest (now (xs .entry)))) ⌝ }
         ensures only { λ r. ⌜ (InRange (read (now (self .entry)) .width) (take widest (now (xs .entry))) → T r) ⌝ }
     {
-        mask::below(mask::first(xs), self.width())
+        variables::below(mask::first(xs), self.width())
     }
 
     // Whether the first arguments are variables of the value, and `end` has a place for each.

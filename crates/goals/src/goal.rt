@@ -3,7 +3,7 @@ ghost use mathlib.Core.Path.{_≡_};
 ghost use lib.Dec.{T};
 ghost use Rattle.domain.specs.Variables.{Below as InRange};
 ghost use Rattle.goals.specs.Goals.{left-of, right-of, variables};
-use families::mask;
+use domain::variables;
 use std::array;
 use std::fmt;
 
@@ -50,7 +50,7 @@ impl<'a> Goal<'a> {
         ensures yes { λ r. ⌜ (T r → InRange n (variables (now (self .entry)))) ⌝ }
         ensures only { λ r. ⌜ (InRange n (variables (now (self .entry))) → T r) ⌝ }
     {
-        x < n && mask::below(ys, n)
+        x < n && variables::below(ys, n)
     }
 }
 

@@ -12,7 +12,7 @@ use Rattle.domain.specs.Variables.{Below, Different, widest}
 use Rattle.domain.proofs.Booleans.{and-split, and-pair}
 use Rattle.families.specs.declared.family.Family.{Family}
 use Rattle.families.specs.Words.{holds}
-use Rattle.families.proofs.Lists.{different-few}
+use Rattle.domain.proofs.Lists.{different-few}
 use Rattle.rows.specs.declared.row.Core.{Core}
 use Rattle.rows.specs.declared.row.Row.{Row}
 use Rattle.rows.specs.Rows.{core, Cored, read, read-has, read-width}

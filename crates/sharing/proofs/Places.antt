@@ -18,7 +18,7 @@ use Rattle.rows.specs.Values.{Value, viewed}
 use Rattle.sharing.specs.Sharing.{Grouped, Describes, entered}
 use Rattle.domain.proofs.Booleans.{and-pair, or-left, or-right}
 use Rattle.families.proofs.Tests.{some-any}
-use Rattle.families.proofs.Lists.{decide-listed}
+use Rattle.domain.proofs.Lists.{decide-listed}
 use Rattle.families.proofs.Masks.{bit-power, power-bit}
 use Rattle.rows.proofs.Values.{some-viewed}
 use Rattle.domain.proofs.Terms.{inside-at, place-below}

@@ -5,7 +5,7 @@ use Prim.Native.Nat.{ℕ}
 use lib.ListN.{getD}
 use Rattle.std.proofs.shelf.Lists.{take-all}
 use Rattle.domain.specs.Variables.{Listed}
-use Rattle.families.proofs.Lists.{listed-more, listed-at}
+use Rattle.domain.proofs.Lists.{listed-more, listed-at}
 use Rattle.goals.proofs.follow.all_apart.Needs as need
 
 pub apart-from-requires : need.apart-from-requires

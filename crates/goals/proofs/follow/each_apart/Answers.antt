@@ -6,7 +6,7 @@ use lib.ListN.{getD}
 use Rattle.std.proofs.shelf.Lists.{take-all}
 use Rattle.domain.specs.Model.{Always-apart}
 use Rattle.domain.specs.Variables.{Listed}
-use Rattle.families.proofs.Lists.{listed-more, listed-at}
+use Rattle.domain.proofs.Lists.{listed-more, listed-at}
 use Rattle.goals.proofs.Pairs.{apart-always, always-apart}
 use Rattle.goals.proofs.follow.each_apart.Needs as need
 

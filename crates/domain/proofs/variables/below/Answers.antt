@@ -1,6 +1,6 @@
 use native.Mathlib.Omega.{arith}
-use Rattle.families.proofs.Lists.{below-each, each-below}
-use Rattle.families.proofs.mask.below.Needs as need
+use Rattle.domain.proofs.Lists.{below-each, each-below}
+use Rattle.domain.proofs.variables.below.Needs as need
 
 pub returns-then-x-n : need.returns-then-x-n
 returns-then-x-n c = record {
