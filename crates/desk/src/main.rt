@@ -1,5 +1,7 @@
 // desk: follows one clause of a show book through its equations in both domains side by side, prints the row at every point
 // as groups and as models, what each says of the variables and of neighbouring goals, and where and why they differ.
+#![tactic(auto)]
+
 mod clause;
 mod differences;
 mod report;

@@ -1,5 +1,7 @@
 // The interface of a domain: what abstract values mean, and the functions that a book uses on them.
 // It knows no particular domain, and no program.
+#![tactic(auto)]
+
 ghost use Rattle.std.specs.Prelude.{◌≡◌, ◌<◌, ◌≤◌, T, length};
 ghost use Rattle.domain.specs.Variables.{widest, Below as InRange, Different};
 ghost use Rattle.domain.specs.Model.{Model, Lawful, Exact as Exactly};

@@ -1,5 +1,7 @@
 // Families of sets of variables as bit maps over words: the ground that domains stand on whose values are such families.
 // It knows nothing of terms, and nothing of what a family means.
+#![tactic(auto)]
+
 mod family;
 mod filters;
 mod listing;

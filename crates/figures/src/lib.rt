@@ -1,5 +1,7 @@
 // Worked figures of the domains: one table of them, proved right by the domains' definitions, and run by their code.
 // It knows no program and no book.
+#![tactic(auto)]
+
 mod figure;
 mod table;
 

@@ -1,6 +1,8 @@
 // The domain of ground formulas: which variables of a clause have no variables in their terms once others have none, as a
 // set of sets of them.
 // It knows no program and no book.
+#![tactic(auto)]
+
 mod filters;
 mod formulas;
 mod making;

@@ -1,5 +1,7 @@
 // The domain of sharing groups: which variables of a clause may share a variable, as a set of sets of them.
 // It knows no program and no book.
+#![tactic(auto)]
+
 mod groups;
 mod making;
 mod parts;

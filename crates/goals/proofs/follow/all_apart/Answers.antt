@@ -4,8 +4,8 @@ use Rattle.domain.specs.Variables.{Listed}
 use Rattle.domain.proofs.Lists.{listed_more, listed_at}
 use Rattle.goals.proofs.follow.all_apart.Goals as goal
 
-pub apart-from-requires : goal.apart-from-requires
-apart-from-requires g c k =
+pub apart_from-requires : goal.apart_from-requires
+apart_from-requires g c =
     let xs : List ℕ = c.args.xs.now in
     let i = c.loop-x.x-index in
     record { x = c.requires.xs (get_or xs i 0) (listed_at xs i c.loop-x-test.true); goal = c.requires.goal }
@@ -13,14 +13,14 @@ apart-from-requires g c k =
 pub loop-x-init : goal.loop-x-init
 loop-x-init g c x y l m = elim l [ ]
 
-pub returns-then-not-apart-from : goal.returns-then-not-apart-from
-returns-then-not-apart-from g c =
+pub returns-then-not-apart_from : goal.returns-then-not-apart_from
+returns-then-not-apart_from g c =
     let xs : List ℕ = c.args.xs.now in
     let i = c.loop-x.x-index in
     record {
       yes = λ t. absurd t;
       only = λ each.
-          c.if-not-apart-from.ensures.only
+          c.if-not-apart_from.ensures.only
           (λ x y l m. each x y (subst (λ (k : ℕ). Listed k xs) (sym (⊎_elim (λ e. e) (λ n. absurd n) l)) (listed_at xs i c.loop-x-test.true)) m);
     }
 
@@ -28,7 +28,7 @@ pub loop-x-preserved : goal.loop-x-preserved
 loop-x-preserved g c x y l m =
     let xs : List ℕ = c.args.xs.now in
     let i = c.loop-x.x-index in
-    ⊎_elim (λ k. c.loop-x.invariant x y k m) (λ e. c.if-not-apart-from.ensures.yes tt x y (inl e) m)
+    ⊎_elim (λ k. c.loop-x.invariant x y k m) (λ e. c.if-not-apart_from.ensures.yes tt x y (inl e) m)
     ((listed_more x i xs c.loop-x-test.true).0 l)
 
 pub returns : goal.returns

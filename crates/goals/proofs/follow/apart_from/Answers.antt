@@ -6,13 +6,13 @@ use Rattle.goals.proofs.Pairs.{apart_always, always_apart}
 use Rattle.goals.proofs.follow.apart_from.Goals as goal
 
 pub apart-requires : goal.apart-requires
-apart-requires g c k =
+apart-requires g c =
     let model = g.D.Domain.model in
     let n = model.width (model.read c.args.row.now) in
     (c.requires.x, subst (λ (y : ℕ). y < n) (sym c.left.ensures) (c.requires.goal (left_of c.args.goal.now) (inl refl)))
 
-pub each-apart-requires : goal.each-apart-requires
-each-apart-requires g c k = record { x = c.requires.x; ys = λ y l. c.requires.goal y (inr (subst (Listed y) c.right.ensures l)) }
+pub each_apart-requires : goal.each_apart-requires
+each_apart-requires g c = record { x = c.requires.x; ys = λ y l. c.requires.goal y (inr (subst (Listed y) c.right.ensures l)) }
 
 pub returns-then-apart : goal.returns-then-apart
 returns-then-apart g c =
@@ -28,8 +28,8 @@ returns-then-apart g c =
       yes = λ t x y l m.
           let same : x ≡ x₀ = ⊎_elim (λ e. e) (λ n. absurd n) l in
           ⊎_elim (λ e. subst (λ (k : ℕ). AlwaysApart model a k y) (sym same) (subst (AlwaysApart model a x₀) (sym e) here))
-          (λ k. c.each-apart.ensures.yes t x y l (subst (Listed y) (sym c.right.ensures) k)) m;
-      only = λ all. c.each-apart.ensures.only (λ x y l m. all x y l (inr (subst (Listed y) c.right.ensures m)));
+          (λ k. c.each_apart.ensures.yes t x y l (subst (Listed y) (sym c.right.ensures) k)) m;
+      only = λ all. c.each_apart.ensures.only (λ x y l m. all x y l (inr (subst (Listed y) c.right.ensures m)));
     }
 
 pub returns-else-apart : goal.returns-else-apart

@@ -7,7 +7,7 @@ use Rattle.goals.proofs.Pairs.{apart_always, always_apart}
 use Rattle.goals.proofs.follow.each_apart.Goals as goal
 
 pub apart-requires : goal.apart-requires
-apart-requires g c k =
+apart-requires g c =
     let ys : List ℕ = c.args.ys.now in
     let i = c.loop-y.y-index in
     (c.requires.x, c.requires.ys (get_or ys i 0) (listed_at ys i c.loop-y-test.true))

@@ -20,8 +20,8 @@ returns-then-not-within-2 g c =
       λ no. refl,
     )
 
-pub apart-from-requires : goal.apart-from-requires
-apart-from-requires g c k =
+pub apart_from-requires : goal.apart_from-requires
+apart_from-requires g c =
     let goal = c.args.first.now in
     let other = c.args.second.now in
     let model = g.D.Domain.model in
@@ -32,8 +32,8 @@ apart-from-requires g c k =
       goal = subst (λ (n : ℕ). Below n (variables other)) c.width-2.ensures (c.if-not-within-2.ensures.yes tt);
     }
 
-pub all-apart-requires : goal.all-apart-requires
-all-apart-requires g c k =
+pub all_apart-requires : goal.all_apart-requires
+all_apart-requires g c =
     let goal = c.args.first.now in
     let other = c.args.second.now in
     let inside = subst (λ (n : ℕ). Below n (variables goal)) c.width.ensures (c.if-not-within.ensures.yes tt) in
@@ -42,14 +42,14 @@ all-apart-requires g c k =
       goal = subst (λ (n : ℕ). Below n (variables other)) c.width-2.ensures (c.if-not-within-2.ensures.yes tt);
     }
 
-pub returns-then-apart-from : goal.returns-then-apart-from
-returns-then-apart-from g c =
+pub returns-then-apart_from : goal.returns-then-apart_from
+returns-then-apart_from g c =
     let goal = c.args.first.now in
     let other = c.args.second.now in (
       λ t x y l m.
-          ⊎_elim (λ e. c.if-apart-from.ensures.yes tt x y (inl (e ∙ sym c.requires.x)) m)
-          (λ k. c.all-apart.ensures.yes t x y (subst (Listed x) (sym c.requires.xs) k) m) l,
-      λ inside all. c.all-apart.ensures.only (λ x y l m. all x y (inr (subst (Listed x) c.requires.xs l)) m),
+          ⊎_elim (λ e. c.if-apart_from.ensures.yes tt x y (inl (e ∙ sym c.requires.x)) m)
+          (λ k. c.all_apart.ensures.yes t x y (subst (Listed x) (sym c.requires.xs) k) m) l,
+      λ inside all. c.all_apart.ensures.only (λ x y l m. all x y (inr (subst (Listed x) c.requires.xs l)) m),
       λ no.
           absurd
           (no (
@@ -58,9 +58,9 @@ returns-then-apart-from g c =
           )),
     )
 
-pub returns-else-apart-from : goal.returns-else-apart-from
-returns-else-apart-from g c = (
-  λ t. absurd (subst T c.if-apart-from.false t),
-  λ inside all. c.apart-from.ensures.only (λ x y l m. all x y (inl (⊎_elim (λ e. e) (λ n. absurd n) l ∙ c.requires.x)) m),
-  λ no. c.if-apart-from.false,
+pub returns-else-apart_from : goal.returns-else-apart_from
+returns-else-apart_from g c = (
+  λ t. absurd (subst T c.if-apart_from.false t),
+  λ inside all. c.apart_from.ensures.only (λ x y l m. all x y (inl (⊎_elim (λ e. e) (λ n. absurd n) l ∙ c.requires.x)) m),
+  λ no. c.if-apart_from.false,
 )

@@ -4,14 +4,14 @@ use Rattle.goals.specs.Goals.{left_of, variables}
 use Rattle.goals.proofs.follow.tied.Goals as goal
 
 pub tie-requires : goal.tie-requires
-tie-requires g c k =
+tie-requires g c =
     let goal = c.args.goal.now in
     let inside = subst (λ (n : ℕ). Below n (variables goal)) c.width.ensures (c.if-within.ensures.yes tt) in
     let m = g.D.Domain.model in
     let n = m.width (m.read c.args.row.now) in
     record {
-      x-within = subst (λ (x : ℕ). x < n) (sym c.requires.x) (inside (left_of goal) (inl refl));
-      ys-within = λ y l. inside y (inr (subst (Listed y) c.requires.ys l));
+      x_within = subst (λ (x : ℕ). x < n) (sym c.requires.x) (inside (left_of goal) (inl refl));
+      ys_within = λ y l. inside y (inr (subst (Listed y) c.requires.ys l));
     }
 
 pub returns-then-within : goal.returns-then-within

@@ -5,8 +5,8 @@ use Rattle.families.proofs.Counts.{count_le, count_alike}
 use Rattle.families.proofs.Words.{count_words_is, count_word, holds_lies}
 use Rattle.families.proofs.family.Family.count.Goals as goal
 
-pub overflow-add-n : goal.overflow-add-n
-overflow-add-n c =
+pub overflow_add-n : goal.overflow_add-n
+overflow_add-n c =
     let ws : List ℕ = c.args.self.now.words in
     let k : ℕ = c.loop-word.word-index in
     let fits : get_or ws k 0 < 2 ^ word = omega arith in

@@ -28,17 +28,17 @@ returns-else-x-width c =
     subst (λ (m : ℕ). (g : ℕ) → left g ≡ (holds f g && not (overlaps g m))) c.only.ensures c.missing.ensures in
     let inside : x < a.width = let wide = c.width.ensures in omega arith in
     let exact = ground_exact a x (read_fits Full v.row) (read_cored Full v.row) inside in
-    let yes : T c.is-empty.result → Ground a x = λ t g held.
+    let yes : T c.is_empty.result → Ground a x = λ t g held.
     let here : T (holds f g) = subst T (sym (c.requires g)) held in
     let low = holds_low f g here in
     ⊎_elim (λ b. b)
     (λ lacks.
-    absurd (subst T (c.is-empty.ensures.yes t g)
+    absurd (subst T (c.is_empty.ensures.yes t g)
     (subst T (sym (left_is g))
     (and_pair (holds f g) (not (overlaps g (alone x))) here (not_T (overlaps g (alone x)) (λ m. lacks ((overlaps_alone g low x).0 m)))))))
     (tested (bit g x)) in
-    let only : Ground a x → T c.is-empty.result = λ ground.
-    c.is-empty.ensures.only
+    let only : Ground a x → T c.is_empty.result = λ ground.
+    c.is_empty.ensures.only
     (λ g.
     same_test (left g) false
     (λ t.

@@ -37,16 +37,16 @@ returns c =
     let inside : x < a.width = let wide = c.width.ensures in let larger = c.max.ensures in omega arith in
     let inside_y : y < a.width = let wide = c.width.ensures in let larger = c.max.ensures in omega arith in
     let exact = apart_exact a x y (read_fits Full v.row) (read_cored Full v.row) inside inside_y in
-    let yes : T c.is-empty.result → Apart a x y = λ t g held.
+    let yes : T c.is_empty.result → Apart a x y = λ t g held.
     let here : T (holds f g) = subst T (sym (c.requires g)) held in
     let low = holds_low f g here in
     ⊎_elim (λ m. ⊎_elim (λ k. inl ((overlaps_alone g low x).0 k)) (λ k. inr ((overlaps_alone g low y).0 k)) ((overlaps_or g (alone x) (alone y)).0 m))
     (λ misses.
-    absurd (subst T (c.is-empty.ensures.yes t g)
+    absurd (subst T (c.is_empty.ensures.yes t g)
     (subst T (sym (left_is g)) (and_pair (holds f g) (not (overlaps g either)) here (not_T (overlaps g either) misses)))))
     (tested (overlaps g either)) in
-    let only : Apart a x y → T c.is-empty.result = λ apart.
-    c.is-empty.ensures.only
+    let only : Apart a x y → T c.is_empty.result = λ apart.
+    c.is_empty.ensures.only
     (λ g.
     same_test (left g) false
     (λ t.

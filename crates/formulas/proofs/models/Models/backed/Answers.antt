@@ -25,11 +25,11 @@ returns c =
     let b = read e in
     let args : List ℕ = take widest c.args.args.now in
     let matches = c.if-not-matches.ensures.yes tt in
-    let reads : read (record { row = record { width = c.width.result; map = c.viewed-in.result } }) ≡ backed a args b =
-    stored Full c.width.result c.viewed-in.result (backed a args b) c.width.ensures (read_narrow v.row)
+    let reads : read (record { row = record { width = c.width.result; map = c.viewed_in.result } }) ≡ backed a args b =
+    stored Full c.width.result c.viewed_in.result (backed a args b) c.width.ensures (read_narrow v.row)
     (backed_fits a args b (read_fits Full v.row))
     (backed_cored a args b matches.0 matches.1 (read_cored Full v.row) (read_cored Full e.row))
     (λ h l.
-    backed_is a (holds c.args.models.now) c.requires.models (holds c.viewed-in.result) args b (holds c.args.ends.now) c.requires.ends
-    c.viewed-in.ensures h) in
+    backed_is a (holds c.args.models.now) c.requires.models (holds c.viewed_in.result) args b (holds c.args.ends.now) c.requires.ends
+    c.viewed_in.ensures h) in
     record { reads = λ _. reads; rule = λ _. subst (BackRule a args b) (sym reads) (backed_rule a args b); past = λ no. absurd (no matches) }

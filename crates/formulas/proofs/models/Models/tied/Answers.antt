@@ -12,10 +12,10 @@ use Rattle.formulas.specs.RulesLemmas.{tied_rule}
 use Rattle.formulas.proofs.Steps.{tied_is}
 use Rattle.formulas.proofs.models.Models.tied.Goals as goal
 
-pub returns-then-not-has-sides : goal.returns-then-not-has-sides
-returns-then-not-has-sides c = record {
-  reads = λ sides. absurd (c.if-not-has-sides.ensures.only sides);
-  rule = λ sides. absurd (c.if-not-has-sides.ensures.only sides);
+pub returns-then-not-has_sides : goal.returns-then-not-has_sides
+returns-then-not-has_sides c = record {
+  reads = λ sides. absurd (c.if-not-has_sides.ensures.only sides);
+  rule = λ sides. absurd (c.if-not-has_sides.ensures.only sides);
   past = λ no. refl;
 }
 
@@ -28,7 +28,7 @@ returns c =
     let models = holds c.args.models.now in
     let made = holds c.filtered-map.result in
     let narrow = read_narrow v.row in
-    let sides = c.if-not-has-sides.ensures.yes tt in
+    let sides = c.if-not-has_sides.ensures.yes tt in
     let low : Below widest ys = λ y l. let below = sides.1 y l in omega arith in
     let made_is = subst (λ (m : ℕ). (g : ℕ) → made g ≡ (models g && alike (bit g x) (eqb (bit_or m g) g))) c.of.ensures c.filtered-map.ensures in
     let reads : read (record { row = record { width = c.width.result; map = c.filtered-map.result } }) ≡ tied a x ys =

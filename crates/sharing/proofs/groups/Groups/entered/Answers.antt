@@ -17,13 +17,13 @@ returns-then-has c =
     let v : ℕ = c.args.v in
     let empty : T (a.has 0) = shown (a.has 0) (c.if-has.ensures ∙ c.groups-groups.ensures 0) in
     let new : ℕ → ℕ → ℕ → Bool = λ (w n h : ℕ). any n (λ i. leb w i && eqb h (2 ^ i)) in
-    let all : (h : ℕ) → holds c.with-each-map.result h ≡ (a.has 0 && (a.has h || new a.width v h)) = λ h.
-    c.with-each-map.ensures h
+    let all : (h : ℕ) → holds c.with_each-map.result h ≡ (a.has 0 && (a.has h || new a.width v h)) = λ h.
+    c.with_each-map.ensures h
     ∙ ap₂ ◌||◌ (c.groups-groups.ensures h) (ap (λ (w : ℕ). new w v h) c.width.ensures)
     ∙ same_test (a.has h || new a.width v h) (a.has 0 && (a.has h || new a.width v h))
     (and_pair (a.has 0) (a.has h || new a.width v h) empty) (λ t. (and_split (a.has 0) (a.has h || new a.width v h) t).1) in
-    let reads : read (record { row = record { width = v; map = c.with-each-map.result } }) ≡ entered a v =
-    stored Empty (v) c.with-each-map.result (entered a v) refl c.requires.1 (entered_fits a v c.requires.0 (read_fits Empty r.row))
+    let reads : read (record { row = record { width = v; map = c.with_each-map.result } }) ≡ entered a v =
+    stored Empty (v) c.with_each-map.result (entered a v) refl c.requires.1 (entered_fits a v c.requires.0 (read_fits Empty r.row))
     (entered_cored a v (read_cored Empty r.row)) (λ h l. all h) in
     record { reads = reads; rule = subst (EnterRule a v) (sym reads) (entered_rule a v) }
 

@@ -20,12 +20,12 @@ returns c =
     let some_is : (g : ℕ) → some g ≡ (holds f g && overlaps g (alone x)) =
     subst (λ (m : ℕ). (g : ℕ) → some g ≡ (holds f g && overlaps g m)) c.only.ensures c.meeting.ensures in
     let exact = ground_exact a x (read_fits Empty v.row) (read_cored Empty v.row) in
-    let yes : T c.is-empty.result → Ground a x = λ t g held has_x.
+    let yes : T c.is_empty.result → Ground a x = λ t g held has_x.
     let here : T (holds f g) = subst T (sym (c.requires g)) held in
-    subst T (c.is-empty.ensures.yes t g)
+    subst T (c.is_empty.ensures.yes t g)
     (subst T (sym (some_is g)) (and_pair (holds f g) (overlaps g (alone x)) here ((overlaps_alone g (holds_low f g here) x).1 has_x))) in
-    let only : Ground a x → T c.is-empty.result = λ ground.
-    c.is-empty.ensures.only
+    let only : Ground a x → T c.is_empty.result = λ ground.
+    c.is_empty.ensures.only
     (λ g.
     same_test (some g) false
     (λ t.

@@ -24,13 +24,13 @@ returns c =
     let both_is : (g : ℕ) → both g ≡ (some g && overlaps g (alone y)) =
     subst (λ (m : ℕ). (g : ℕ) → both g ≡ (some g && overlaps g m)) c.only-2.ensures c.meeting-2.ensures in
     let exact = apart_exact a x y (read_fits Empty v.row) (read_cored Empty v.row) in
-    let yes : T c.is-empty.result → Apart a x y = λ t g held has_x has_y.
+    let yes : T c.is_empty.result → Apart a x y = λ t g held has_x has_y.
     let here : T (holds f g) = subst T (sym (c.requires g)) held in
     let low = holds_low f g here in
     let first : T (some g) = subst T (sym (some_is g)) (and_pair (holds f g) (overlaps g (alone x)) here ((overlaps_alone g low x).1 has_x)) in
-    subst T (c.is-empty.ensures.yes t g) (subst T (sym (both_is g)) (and_pair (some g) (overlaps g (alone y)) first ((overlaps_alone g low y).1 has_y))) in
-    let only : Apart a x y → T c.is-empty.result = λ apart.
-    c.is-empty.ensures.only
+    subst T (c.is_empty.ensures.yes t g) (subst T (sym (both_is g)) (and_pair (some g) (overlaps g (alone y)) first ((overlaps_alone g low y).1 has_y))) in
+    let only : Apart a x y → T c.is_empty.result = λ apart.
+    c.is_empty.ensures.only
     (λ g.
     same_test (both g) false
     (λ t.
