@@ -1,5 +1,5 @@
 // Parts of a family, each by a test of its sets.
-ghost use Rattle.std.specs.Prelude.{◌^◌, not, ltb, take, nat_lt};
+ghost use Rattle.std.specs.Prelude.{◌^◌, not, take, nat_lt};
 ghost use Rattle.domain.specs.Variables.{widest};
 ghost use Rattle.families.specs.Families.{Part};
 ghost use Rattle.families.specs.Masks.{cut as cut_down, overlaps};
@@ -12,7 +12,7 @@ use super::mask::{EMPTY, Mask};
 impl Family {
     // The sets of variables below the width.
     pub fn narrowed(&self, width: u8) -> Family
-        ensures { Part self.now (λ g. ltb g (2 ^ width)) result }
+        ensures { Part self.now (λ g. nat_lt g (2 ^ width)) result }
     {
         self.filtered(&Narrow { width })
     }

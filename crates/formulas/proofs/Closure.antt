@@ -10,7 +10,7 @@ use Rattle.formulas.specs.Formulas.{tied, entered, backed}
 use Rattle.formulas.specs.Bounds.{unknown}
 use Rattle.domain.proofs.Booleans.{and_split, and_pair}
 use Rattle.families.proofs.Ranges.{bit_whole, cut_whole, low_whole}
-use Rattle.formulas.specs.RulesLemmas.{tied_rule, backed_rule}
+use Rattle.formulas.specs.Laws.Rules.{tied_rule, backed_rule}
 
 -- ---- tie
 

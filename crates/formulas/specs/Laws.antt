@@ -1,4 +1,10 @@
 -- Ground formulas are a lawful domain, and its verdicts are exact. Assumes nothing.
+pub mod Outcomes
+pub mod Terms
+pub mod Places
+pub mod Rules
+pub mod Growth
+pub mod Exactness
 use Rattle.std.specs.Prelude.{refl}
 use Rattle.std.proofs.Common.{◌∙◌}
 use Rattle.domain.specs.Model.{Lawful, Exact}
@@ -7,9 +13,9 @@ use Rattle.rows.specs.declared.row.Core.TheVariants.{Full}
 use Rattle.formulas.specs.Formulas.{formulas, read}
 use Rattle.rows.proofs.Values.{under_refl, under_trans, under_antisym, never_least, join_left, join_right, join_least, view_grows, rank_bound, rank_rises}
 use Rattle.rows.proofs.Reading.{read_narrow, read_fits, read_cored}
-use Rattle.formulas.specs.Outcomes.{tie_describes, view_describes, enter_describes, back_describes}
-use Rattle.formulas.specs.Growth.{tie_grows, enter_grows, back_grows}
-use Rattle.formulas.specs.Exactness.{ground_holds, apart_holds, ground_exact, apart_exact}
+use Rattle.formulas.specs.Laws.Outcomes.{tie_describes, view_describes, enter_describes, back_describes}
+use Rattle.formulas.specs.Laws.Growth.{tie_grows, enter_grows, back_grows}
+use Rattle.formulas.specs.Laws.Exactness.{ground_holds, apart_holds, ground_exact, apart_exact}
 
 pub lawful : Lawful formulas
 lawful = record {

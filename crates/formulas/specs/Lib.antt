@@ -2,9 +2,3 @@ pub mod Formulas
 pub mod Rules
 pub mod Bounds
 pub mod Laws
-pub mod Outcomes
-pub mod Terms
-pub mod Places
-pub mod RulesLemmas
-pub mod Growth
-pub mod Exactness

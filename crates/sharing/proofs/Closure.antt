@@ -9,7 +9,7 @@ use Rattle.rows.specs.Values.{Value, Fits}
 use Rattle.sharing.specs.Sharing.{touches, picks, union, tied, entered, backed}
 use Rattle.domain.proofs.Booleans.{and_split, and_pair, or_split, or_left}
 use Rattle.families.proofs.Masks.{zero_bits, empty_misses}
-use Rattle.sharing.specs.Picks.{picks_some, union_all}
+use Rattle.sharing.specs.Laws.Picks.{picks_some, union_all}
 use Rattle.sharing.proofs.Rules.{entered_rule}
 
 -- ---- tie

@@ -12,7 +12,7 @@ use Rattle.domain.proofs.Booleans.{and_split, and_pair, or_split, or_left, or_ri
 use Rattle.families.proofs.Tests.{any_some, some_any, within_at, at_within}
 use Rattle.families.proofs.Masks.{same_bits, below_bits}
 use Rattle.families.proofs.Unions.{together_one, one_together, together_below, members, member_passes, passes_member}
-use Rattle.sharing.specs.Picks.{Picked, picks_some, some_picks, United, union_all, all_union}
+use Rattle.sharing.specs.Laws.Picks.{Picked, picks_some, some_picks, United, union_all, all_union}
 
 -- ---- a union of all is a union of some
 

@@ -1,4 +1,11 @@
 -- Sharing groups are a lawful domain. Assumes nothing.
+pub mod TieLaw
+pub mod Picks
+pub mod Moves
+pub mod BackLaw
+pub mod Growth
+pub mod Places
+pub mod Exactness
 use Rattle.std.specs.Prelude.{◌≡◌, ℕ, ◌+◌, length, refl}
 use Rattle.std.proofs.Common.{sym, subst, ◌∙◌}
 use Rattle.domain.specs.Model.{Lawful, Exact}
@@ -6,11 +13,11 @@ use Rattle.sharing.specs.Sharing.{Describes, tied, entered, backed, sharing, rea
 use Rattle.rows.specs.declared.row.Core.TheVariants.{Empty}
 use Rattle.rows.proofs.Reading.{read_narrow, read_fits, read_cored}
 use Rattle.rows.proofs.Values.{under_refl, under_trans, under_antisym, never_least, join_left, join_right, join_least, view_grows, rank_bound, rank_rises}
-use Rattle.sharing.specs.TieLaw.{tie_describes}
-use Rattle.sharing.specs.BackLaw.{back_describes}
-use Rattle.sharing.specs.Growth.{tie_grows, enter_grows, back_grows}
-use Rattle.sharing.specs.Places.{view_describes, enter_describes}
-use Rattle.sharing.specs.Exactness.{ground_holds, apart_holds, ground_exact, apart_exact}
+use Rattle.sharing.specs.Laws.TieLaw.{tie_describes}
+use Rattle.sharing.specs.Laws.BackLaw.{back_describes}
+use Rattle.sharing.specs.Laws.Growth.{tie_grows, enter_grows, back_grows}
+use Rattle.sharing.specs.Laws.Places.{view_describes, enter_describes}
+use Rattle.sharing.specs.Laws.Exactness.{ground_holds, apart_holds, ground_exact, apart_exact}
 
 pub lawful : Lawful sharing
 lawful = record {

@@ -8,7 +8,7 @@ use Rattle.families.proofs.Words.{holds_low}
 use Rattle.rows.specs.declared.row.Core.TheVariants.{Full}
 use Rattle.rows.proofs.Reading.{read_fits, read_cored}
 use Rattle.formulas.specs.Formulas.{read, Ground}
-use Rattle.formulas.specs.Exactness.{always_past, ground_exact}
+use Rattle.formulas.specs.Laws.Exactness.{always_past, ground_exact}
 use Rattle.formulas.proofs.models.Models.all_have.Goals as goal
 
 pub returns-then-x-width : goal.returns-then-x-width

@@ -10,7 +10,7 @@ use Rattle.families.proofs.Words.{holds_low}
 use Rattle.rows.specs.declared.row.Core.TheVariants.{Full}
 use Rattle.rows.proofs.Reading.{read_fits, read_cored}
 use Rattle.formulas.specs.Formulas.{read, Apart}
-use Rattle.formulas.specs.Exactness.{apart_past, apart_exact}
+use Rattle.formulas.specs.Laws.Exactness.{apart_past, apart_exact}
 use Rattle.formulas.proofs.models.Models.all_have_one.Goals as goal
 
 pub returns-then-max-width : goal.returns-then-max-width

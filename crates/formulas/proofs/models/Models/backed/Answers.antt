@@ -6,7 +6,7 @@ use Rattle.rows.proofs.Reading.{stored, read_narrow, read_fits, read_cored}
 use Rattle.formulas.specs.Formulas.{read, backed}
 use Rattle.formulas.specs.Rules.{BackRule}
 use Rattle.formulas.proofs.Closure.{backed_fits, backed_cored}
-use Rattle.formulas.specs.RulesLemmas.{backed_rule}
+use Rattle.formulas.specs.Laws.Rules.{backed_rule}
 use Rattle.formulas.proofs.Steps.{backed_is}
 use Rattle.formulas.proofs.models.Models.backed.Goals as goal
 

@@ -8,7 +8,7 @@ use Rattle.rows.proofs.Reading.{stored, read_fits, read_cored}
 use Rattle.formulas.specs.Formulas.{read, entered}
 use Rattle.formulas.specs.Rules.{EnterRule}
 use Rattle.formulas.proofs.Closure.{entered_fits, entered_cored}
-use Rattle.formulas.specs.RulesLemmas.{entered_rule}
+use Rattle.formulas.specs.Laws.Rules.{entered_rule}
 use Rattle.formulas.proofs.Steps.{entered_is}
 use Rattle.formulas.proofs.models.Models.entered.Goals as goal
 

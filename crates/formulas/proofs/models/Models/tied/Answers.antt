@@ -8,7 +8,7 @@ use Rattle.rows.proofs.Reading.{stored, read_narrow, read_fits, read_cored}
 use Rattle.formulas.specs.Formulas.{read, tied, alike}
 use Rattle.formulas.specs.Rules.{TieRule}
 use Rattle.formulas.proofs.Closure.{tied_fits, tied_cored}
-use Rattle.formulas.specs.RulesLemmas.{tied_rule}
+use Rattle.formulas.specs.Laws.Rules.{tied_rule}
 use Rattle.formulas.proofs.Steps.{tied_is}
 use Rattle.formulas.proofs.models.Models.tied.Goals as goal
 

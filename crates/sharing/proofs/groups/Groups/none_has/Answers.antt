@@ -6,7 +6,7 @@ use Rattle.domain.proofs.Booleans.{and_split, and_pair, same_test}
 use Rattle.families.proofs.Words.{holds_low}
 use Rattle.rows.specs.declared.row.Core.TheVariants.{Empty}
 use Rattle.sharing.specs.Sharing.{read, Ground}
-use Rattle.sharing.specs.Exactness.{ground_exact}
+use Rattle.sharing.specs.Laws.Exactness.{ground_exact}
 use Rattle.rows.proofs.Reading.{read_fits, read_cored}
 use Rattle.sharing.proofs.groups.Groups.none_has.Goals as goal
 

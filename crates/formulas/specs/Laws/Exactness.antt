@@ -16,15 +16,15 @@ use Rattle.domain.proofs.Terms.{place_below}
 use Rattle.families.proofs.Spread.{spread, length_spread, spread_at}
 use Rattle.families.proofs.Masks.{below_bits}
 use Rattle.families.proofs.Ranges.{bit_whole}
-use Rattle.formulas.specs.Terms.{closed, closed_fact, fact_closed, apply_none, only, only_keeps}
+use Rattle.formulas.specs.Laws.Terms.{closed, closed_fact, fact_closed, apply_none, only, only_keeps}
 
 -- ---- the verdicts hold
 
 -- under no substitution at all
 pub ground_holds : (a : Value) (x : ℕ) → Ground a x → AlwaysGround formulas a x
-ground_holds a x ground ts described =
+ground_holds a x known ts described =
     let k = described.1 var in
-    subst (λ (t : Term). Closed t) (apply_none (term_at ts x)) ((k.exact x).0 (ground k.g k.held)).1
+    subst (λ (t : Term). Closed t) (apply_none (term_at ts x)) ((k.exact x).0 (known k.g k.held)).1
 
 -- under the substitution that leaves the shared variable alone
 pub apart_holds : (a : Value) (x y : ℕ) → Apart a x y → AlwaysApart formulas a x y

@@ -12,7 +12,7 @@ use Rattle.formulas.specs.Formulas.{Grounded, Describes}
 use Rattle.domain.proofs.Lists.{listed_at}
 use Rattle.families.proofs.Masks.{one_mask, bits_below, bit_pack, bit_cut}
 use Rattle.families.proofs.Ranges.{bit_whole}
-use Rattle.formulas.specs.Terms.{closed, closed_fact, fact_closed, nothing_left, nothing_closed, chain, applied_chain}
+use Rattle.formulas.specs.Laws.Terms.{closed, closed_fact, fact_closed, nothing_left, nothing_closed, chain, applied_chain}
 
 -- ---- the mask
 

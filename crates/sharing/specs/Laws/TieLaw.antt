@@ -13,8 +13,8 @@ use Rattle.sharing.specs.Sharing.{Grouped, Describes, touches, picks, union, tie
 use Rattle.domain.proofs.Booleans.{and_pair, or_split, or_left, or_right}
 use Rattle.families.proofs.Tests.{meets_some, some_meets}
 use Rattle.domain.proofs.Terms.{decide_occurs, occurs_from, occurs_into, picked_some, some_picked}
-use Rattle.sharing.specs.Picks.{some_picks, all_union}
-use Rattle.sharing.specs.Moves.{after, after_places, origin, picked, united, all_move, after_held}
+use Rattle.sharing.specs.Laws.Picks.{some_picks, all_union}
+use Rattle.sharing.specs.Laws.Moves.{after, after_places, origin, picked, united, all_move, after_held}
 
 -- ---- the right side holds the variables of the places listed
 

@@ -12,8 +12,8 @@ use Rattle.sharing.specs.Sharing.{Grouped, Describes, picks, union, backed}
 use Rattle.domain.proofs.Booleans.{and_pair, or_left, or_right}
 use Rattle.families.proofs.Tests.{meets_some, some_meets}
 use Rattle.domain.proofs.Terms.{decide_inside, occurs_from, occurs_into, applied_at, picked_some, some_picked}
-use Rattle.sharing.specs.Picks.{Places, places_held, empty_held, cut_places, some_picks, all_union}
-use Rattle.sharing.specs.Moves.{after, after_places, after_exact, picked, united, all_move, after_held}
+use Rattle.sharing.specs.Laws.Picks.{Places, places_held, empty_held, cut_places, some_picks, all_union}
+use Rattle.sharing.specs.Laws.Moves.{after, after_places, after_exact, picked, united, all_move, after_held}
 
 pick_applied : (s : Subst) (ts : List Term) (xs : List ℕ) → pick xs (map (apply s) ts) ≡ map (apply s) (pick xs ts)
 pick_applied s ts [] = refl

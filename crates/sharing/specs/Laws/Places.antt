@@ -18,7 +18,7 @@ use Rattle.domain.proofs.Lists.{decide_listed}
 use Rattle.families.proofs.Masks.{bit_power, power_bit}
 use Rattle.rows.proofs.Values.{some_viewed}
 use Rattle.domain.proofs.Terms.{inside_at, place_below}
-use Rattle.sharing.specs.Picks.{cut_places, empty_held, group_below}
+use Rattle.sharing.specs.Laws.Picks.{cut_places, empty_held, group_below}
 
 -- ---- view
 

@@ -5,7 +5,7 @@ use Rattle.families.specs.Masks.{bit, cut, any, meets}
 use Rattle.rows.specs.Values.{Value, Under}
 use Rattle.sharing.specs.Sharing.{touches, picks, union, tied, entered, backed}
 use Rattle.domain.proofs.Booleans.{and_grows, or_grows}
-use Rattle.sharing.specs.Picks.{Picked, picks_some, some_picks, union_all, all_union}
+use Rattle.sharing.specs.Laws.Picks.{Picked, picks_some, some_picks, union_all, all_union}
 
 module _ (a b : Value) (under : Under a b) where
   below_grows : (g : ℕ) → g < 2 ^ a.width → g < 2 ^ b.width

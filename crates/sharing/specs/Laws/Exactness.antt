@@ -16,8 +16,8 @@ use Rattle.families.proofs.Masks.{below_bits, zero_bits}
 use Rattle.domain.proofs.Terms.{place_below}
 
 pub ground_holds : (a : Value) (x : ℕ) → Ground a x → AlwaysGround sharing a x
-ground_holds a x ground ts described u o =
-    let k = described.1 u in ground k.g k.held ((k.exact x).1 o)
+ground_holds a x known ts described u o =
+    let k = described.1 u in known k.g k.held ((k.exact x).1 o)
 
 pub apart_holds : (a : Value) (x y : ℕ) → Apart a x y → AlwaysApart sharing a x y
 apart_holds a x y apart ts described u o p =

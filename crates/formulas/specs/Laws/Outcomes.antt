@@ -15,9 +15,9 @@ use Rattle.formulas.specs.Formulas.{Grounded, Modelled, Describes, tied, entered
 use Rattle.domain.proofs.Booleans.{and_pair}
 use Rattle.families.proofs.Ranges.{bit_low}
 use Rattle.rows.proofs.Values.{some_viewed}
-use Rattle.formulas.specs.Terms.{chain, apply_chain, side_each, each_side}
-use Rattle.formulas.specs.Places.{grounds, grounds_exact, grounded_below, grounded_held, grounded_applied, grounded_cut}
-use Rattle.formulas.specs.RulesLemmas.{tied_rule, backed_rule}
+use Rattle.formulas.specs.Laws.Terms.{chain, apply_chain, side_each, each_side}
+use Rattle.formulas.specs.Laws.Places.{grounds, grounds_exact, grounded_below, grounded_held, grounded_applied, grounded_cut}
+use Rattle.formulas.specs.Laws.Rules.{tied_rule, backed_rule}
 
 below_length : (a : Value) (ts : List Term) → Describes a ts → (xs : List ℕ) → Below a.width xs → Below (length ts) xs
 below_length a ts described xs below = subst (λ (n : ℕ). Below n xs) (sym described.0) below

@@ -8,7 +8,7 @@ use Rattle.rows.specs.Values.{Value}
 use Rattle.sharing.specs.Sharing.{Describes}
 use Rattle.families.proofs.Masks.{no_bits}
 use Rattle.domain.proofs.Terms.{occurs_from, occurs_into, alone_from, alone_into, applied_at, inside_at}
-use Rattle.sharing.specs.Picks.{Places, places, places_exact, places_held, places_below, empty_held, group_below, Picked, United}
+use Rattle.sharing.specs.Laws.Picks.{Places, places, places_exact, places_held, places_below, empty_held, group_below, Picked, United}
 
 -- ---- the group of u after
 
