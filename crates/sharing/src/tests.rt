@@ -5,22 +5,22 @@ use domain::{Domain, Refusal};
 use families::{Family, Listing, mask};
 use rows::Row;
 use std::mem::size_of;
-use std::process::Abort;
 use std::test::Fail;
 
-fn shows(rt: &(impl Abort + AllocGlobal), value: &Groups, text: &str) -> Result<(), Fail> {
+fn shows(rt: &HostRuntime, value: &Groups, text: &str) -> Result<(), Fail> {
     let shown = format!(in rt.alloc(); "{value}")?;
-    assert_eq!(rt; shown.as_str(), text);
-    Ok(())
+    if shown.as_str() == text {
+        Ok(())
+    } else {
+        Err(Fail::new("shown otherwise"))
+    }
 }
 
-fn refuses(rt: &impl Abort, answer: Result<(), Refusal>, number: u8) -> Result<(), Fail> {
+fn refuses(answer: Result<(), Refusal>, number: u8) -> Result<(), Fail> {
     match answer {
         Ok(()) => Err(Fail::new("accepted")),
-        Err(refusal) => {
-            assert_eq!(rt; refusal.number(), number);
-            Ok(())
-        },
+        Err(refusal) if refusal.number() == number => Ok(()),
+        Err(_) => Err(Fail::new("refused by another number")),
     }
 }
 
@@ -41,18 +41,13 @@ fn groups(width: u8, map: Family) -> Groups {
 #[test]
 fn a_refused_make_leaves_its_place(rt: HostRuntime) -> Result<(), Fail> {
     let mut place = value(3, &[&[0, 2], &[1]])?;
-    refuses(&rt, Groups::make(9, Listing::Never, &mut place), 14)?;
+    refuses(Groups::make(9, Listing::Never, &mut place), 14)?;
+    refuses(Groups::make(9, Listing::Sets(&[&[200]]), &mut place), 14)?;
     refuses(
-        &rt,
-        Groups::make(9, Listing::Sets(&[&[200]]), &mut place),
-        14,
-    )?;
-    refuses(
-        &rt,
         Groups::make(3, Listing::Sets(&[&[1], &[0, 3]]), &mut place),
         7,
     )?;
-    refuses(&rt, Groups::make(0, Listing::Sets(&[&[0]]), &mut place), 7)?;
+    refuses(Groups::make(0, Listing::Sets(&[&[0]]), &mut place), 7)?;
     shows(&rt, &place, "{e,1,02}")?;
     assert!(rt; Groups::make(2, Listing::Never, &mut place).is_ok());
     shows(&rt, &place, "never")?;
