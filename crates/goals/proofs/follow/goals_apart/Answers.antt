@@ -5,47 +5,47 @@ use Rattle.goals.proofs.follow.goals_apart.Goals as goal
 
 pub returns-then-not-within : goal.returns-then-not-within
 returns-then-not-within g c =
-    let goal = c.args.first.now in (
+    let first = c.args.first.now in (
       λ t. absurd t,
-      λ inside all. c.if-not-within.ensures.only (subst (λ (n : ℕ). Below n (variables goal)) (sym c.width.ensures) inside.0),
+      λ inside all. c.if-not-within.ensures.only (subst (λ (n : ℕ). Below n (variables first)) (sym c.width.ensures) inside.0),
       λ no. refl,
     )
 
 pub returns-then-not-within-2 : goal.returns-then-not-within-2
 returns-then-not-within-2 g c =
-    let goal = c.args.second.now in (
+    let second = c.args.second.now in (
       λ t. absurd t,
       λ inside all.
-          c.if-not-within-2.ensures.only (subst (λ (n : ℕ). Below n (variables goal)) (sym c.width-2.ensures) inside.1),
+          c.if-not-within-2.ensures.only (subst (λ (n : ℕ). Below n (variables second)) (sym c.width-2.ensures) inside.1),
       λ no. refl,
     )
 
 pub apart_from-requires : goal.apart_from-requires
 apart_from-requires g c =
-    let goal = c.args.first.now in
-    let other = c.args.second.now in
+    let first = c.args.first.now in
+    let second = c.args.second.now in
     let model = g.D.Domain.model in
     let n = model.width (model.read c.args.row.now) in
-    let inside = subst (λ (n : ℕ). Below n (variables goal)) c.width.ensures (c.if-not-within.ensures.yes tt) in
+    let inside = subst (λ (n : ℕ). Below n (variables first)) c.width.ensures (c.if-not-within.ensures.yes tt) in
     record {
-      x = subst (λ (x : ℕ). x < n) (sym c.requires.x) (inside (left_of goal) (inl refl));
-      goal = subst (λ (n : ℕ). Below n (variables other)) c.width-2.ensures (c.if-not-within-2.ensures.yes tt);
+      x = subst (λ (x : ℕ). x < n) (sym c.requires.x) (inside (left_of first) (inl refl));
+      goal = subst (λ (n : ℕ). Below n (variables second)) c.width-2.ensures (c.if-not-within-2.ensures.yes tt);
     }
 
 pub all_apart-requires : goal.all_apart-requires
 all_apart-requires g c =
-    let goal = c.args.first.now in
-    let other = c.args.second.now in
-    let inside = subst (λ (n : ℕ). Below n (variables goal)) c.width.ensures (c.if-not-within.ensures.yes tt) in
+    let first = c.args.first.now in
+    let second = c.args.second.now in
+    let inside = subst (λ (n : ℕ). Below n (variables first)) c.width.ensures (c.if-not-within.ensures.yes tt) in
     record {
       xs = λ x l. inside x (inr (subst (Listed x) c.requires.xs l));
-      goal = subst (λ (n : ℕ). Below n (variables other)) c.width-2.ensures (c.if-not-within-2.ensures.yes tt);
+      goal = subst (λ (n : ℕ). Below n (variables second)) c.width-2.ensures (c.if-not-within-2.ensures.yes tt);
     }
 
 pub returns-then-apart_from : goal.returns-then-apart_from
 returns-then-apart_from g c =
-    let goal = c.args.first.now in
-    let other = c.args.second.now in (
+    let first = c.args.first.now in
+    let second = c.args.second.now in (
       λ t x y l m.
           ⊎_elim (λ e. c.if-apart_from.ensures.yes tt x y (inl (e ∙ sym c.requires.x)) m)
           (λ k. c.all_apart.ensures.yes t x y (subst (Listed x) (sym c.requires.xs) k) m) l,
@@ -53,8 +53,8 @@ returns-then-apart_from g c =
       λ no.
           absurd
           (no (
-            subst (λ (n : ℕ). Below n (variables goal)) c.width.ensures (c.if-not-within.ensures.yes tt),
-            subst (λ (n : ℕ). Below n (variables other)) c.width-2.ensures (c.if-not-within-2.ensures.yes tt),
+            subst (λ (n : ℕ). Below n (variables first)) c.width.ensures (c.if-not-within.ensures.yes tt),
+            subst (λ (n : ℕ). Below n (variables second)) c.width-2.ensures (c.if-not-within-2.ensures.yes tt),
           )),
     )
 
