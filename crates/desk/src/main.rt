@@ -8,7 +8,6 @@ mod report;
 
 use clause::{Clause, Rows};
 use domain::{Domain, Refusal};
-use families::Listing;
 use formulas::Models;
 use goals::Goal;
 use sharing::Groups;
@@ -54,8 +53,8 @@ fn rehearse(rt: &HostRuntime) -> anyhow::Result<()> {
 // One of the two titles is known when the clause is called, and they share nothing.
 fn entry(arguments: u8) -> Result<Rows, Refusal> {
     let mut groups = Groups::never(0);
-    Groups::make(arguments, Listing::Sets(&[&[0], &[1]]), &mut groups)?;
+    Groups::make(arguments, Some(&[&[0], &[1]]), &mut groups)?;
     let mut models = Models::never(0);
-    Models::make(arguments, Listing::Sets(&[&[0], &[1]]), &mut models)?;
+    Models::make(arguments, Some(&[&[0], &[1]]), &mut models)?;
     Ok(Rows { groups, models })
 }

@@ -3,7 +3,7 @@ use super::clause::{Clause, Rows};
 use super::differences;
 use domain::{Domain, WIDEST};
 use goals::Goal;
-use std::io;
+use std::{array, io};
 
 const MOST: usize = WIDEST as usize;
 
@@ -11,18 +11,41 @@ const MOST: usize = WIDEST as usize;
 pub fn clause(rt: &impl Print, clause: &Clause, entry: &Rows) -> io::Result<()> {
     println!(rt; "entry")?;
     rows(rt, entry)?;
-    let start = Rows {
-        groups: entry.groups.enter(clause.variables),
-        models: entry.models.enter(clause.variables),
-    };
+    let start = entry.enter(clause.variables);
     let end = points(rt, clause, &start)?;
     println!(rt; "returned")?;
-    rows(rt, &returned(&end, clause.arguments))?;
+    rows(rt, &end.at_head(clause.arguments))?;
     println!(rt; "at the end")?;
     verdicts(rt, "groups", &end.groups)?;
     verdicts(rt, "models", &end.models)?;
     println!(rt; "side by side")?;
     neighbours(rt, clause, &start)
+}
+
+impl Rows {
+    fn enter(&self, variables: u8) -> Rows {
+        Rows {
+            groups: self.groups.enter(variables),
+            models: self.models.enter(variables),
+        }
+    }
+
+    fn after(&self, goal: &Goal) -> Rows {
+        Rows {
+            groups: goals::after(&self.groups, goal),
+            models: goals::after(&self.models, goal),
+        }
+    }
+
+    // What a clause returns that ends with these rows: what they are at the arguments of its head.
+    fn at_head(&self, arguments: u8) -> Rows {
+        let all: [u8; MOST] = array::from_fn(|x| x as u8);
+        let head = &all[..arguments.min(WIDEST) as usize];
+        Rows {
+            groups: self.groups.view(head),
+            models: self.models.view(head),
+        }
+    }
 }
 
 fn rows(rt: &impl Print, rows: &Rows) -> io::Result<()> {
@@ -35,7 +58,7 @@ fn points(rt: &impl Print, clause: &Clause, start: &Rows) -> io::Result<Rows> {
     let mut now = *start;
     point(rt, 0, &now)?;
     for (k, goal) in clause.goals.iter().enumerate() {
-        now = after(&now, goal);
+        now = now.after(goal);
         println!(rt; "goal {k}: {goal}")?;
         point(rt, k + 1, &now)?;
     }
@@ -46,26 +69,6 @@ fn point(rt: &impl Print, k: usize, now: &Rows) -> io::Result<()> {
     println!(rt; "point {k}")?;
     rows(rt, now)?;
     differences::print(rt, now)
-}
-
-fn after(rows: &Rows, goal: &Goal) -> Rows {
-    Rows {
-        groups: goals::after(&rows.groups, goal),
-        models: goals::after(&rows.models, goal),
-    }
-}
-
-// What the clause returns: the rows at its end, at the arguments of its head.
-fn returned(end: &Rows, arguments: u8) -> Rows {
-    let mut head = [0; MOST];
-    for x in 0..WIDEST {
-        head[x as usize] = x;
-    }
-    let head = &head[0..arguments.min(WIDEST) as usize];
-    Rows {
-        groups: end.groups.view(head),
-        models: end.models.view(head),
-    }
 }
 
 // What a domain says of the variables of a row, and of each two of them.
@@ -97,7 +100,7 @@ fn neighbours(rt: &impl Print, clause: &Clause, start: &Rows) -> io::Result<()> 
             "  goals {k} and {}: groups {groups}, models {models}",
             k + 1
         )?;
-        now = after(&now, &pair[0]);
+        now = now.after(&pair[0]);
     }
     Ok(())
 }

@@ -2,9 +2,9 @@
 // It knows no particular domain, and no program.
 #![tactic(auto)]
 
-ghost use Rattle.std.specs.Prelude.{◌≡◌, ◌<◌, ◌≤◌, T, length};
-ghost use Rattle.domain.specs.Variables.{widest, Below as InRange, Different};
-ghost use Rattle.domain.specs.Model.{Model, Lawful, Exact as Exactly};
+ghost use Rattle.std.specs.Prelude.{◌≡◌, ◌≤◌, T};
+ghost use Rattle.domain.specs.Variables.{widest};
+ghost use Rattle.domain.specs.Model.{Model, Lawful, Exact as Exactly, Variable, Sides, Arguments, Room, Placed};
 
 mod refusal;
 pub mod variables;
@@ -39,37 +39,35 @@ pub trait Domain: Copy {
 
     // After an equation of variable x with a side that has exactly the variables ys.
     fn tie(&self, x: u8, ys: &[u8]) -> Self
-        requires x_within { x < model.width (model.read self.now) }
-        requires ys_within { InRange (model.width (model.read self.now)) ys.now }
+        requires { Sides model (model.read self.now) x ys.now }
         ensures { model.read result ≡ model.tied (model.read self.now) x ys.now };
 
     // At the variables xs, numbered by position: what a call passes to its callee.
     fn view(&self, xs: &[u8]) -> Self
-        requires within { InRange (model.width (model.read self.now)) xs.now }
-        requires different { Different xs.now }
+        requires { Arguments model (model.read self.now) xs.now }
         ensures { model.read result ≡ model.viewed (model.read self.now) xs.now };
 
     // With new variables up to v of them: where a clause begins.
     fn enter(&self, v: u8) -> Self
-        requires { (model.width (model.read self.now) ≤ v) × (v ≤ widest) }
+        requires { Room model (model.read self.now) v }
         ensures { model.read result ≡ model.entered (model.read self.now) v };
 
     // After a call with the arguments args that ended as the callee's value `end` says.
     fn back(&self, args: &[u8], end: &Self) -> Self
-        requires within { InRange (model.width (model.read self.now)) args.now }
-        requires different { Different args.now }
-        requires fits { model.width (model.read end.now) ≡ length args.now }
+        requires arguments { Arguments model (model.read self.now) args.now }
+        requires placed { Placed model args.now (model.read end.now) }
         ensures { model.read result ≡ model.backed (model.read self.now) args.now (model.read end.now) };
 
     // Whether the value says that x is ground.
     fn ground(&self, x: u8) -> bool
-        requires { x < model.width (model.read self.now) }
+        requires { Variable model (model.read self.now) x }
         ensures yes { T result → model.Ground (model.read self.now) x }
         ensures only { model.Ground (model.read self.now) x → T result };
 
     // Whether the value says that x and y share no variable.
     fn apart(&self, x: u8, y: u8) -> bool
-        requires { (x < model.width (model.read self.now)) × (y < model.width (model.read self.now)) }
+        requires x_within { Variable model (model.read self.now) x }
+        requires y_within { Variable model (model.read self.now) y }
         ensures yes { T result → model.Apart (model.read self.now) x y }
         ensures only { model.Apart (model.read self.now) x y → T result };
 
@@ -86,3 +84,6 @@ pub trait Domain: Copy {
 pub trait Exact: Domain {
     ghost exact: { Exactly Self.Domain.model };
 }
+
+#[cfg(test)]
+mod tests;

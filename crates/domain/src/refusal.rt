@@ -2,52 +2,35 @@
 ghost use Rattle.std.specs.Prelude.{◌≡◌};
 ghost use Rattle.domain.specs.Refusals.{number as numbered};
 
+use std::error::Error;
 use std::fmt;
 
 #[derive(Clone, Copy, PartialEq, Eq, Debug)]
 pub enum Refusal {
-    FewRows,
-    ManyArguments,
-    ManyPredicates,
-    NoPredicate,
-    VariableCount,
-    ManyGoals,
-    Variable,
-    Callee,
-    Repeated,
-    ManyClauses,
-    NoClause,
-    MarkedSo,
-    NoRow,
-    Width,
-    Bare,
-    NotPassed,
-    ClauseCut,
+    FewRows = 1,
+    ManyArguments = 2,
+    ManyPredicates = 3,
+    NoPredicate = 4,
+    VariableCount = 5,
+    ManyGoals = 6,
+    Variable = 7,
+    Callee = 8,
+    Repeated = 9,
+    ManyClauses = 10,
+    NoClause = 11,
+    MarkedSo = 12,
+    NoRow = 13,
+    Width = 14,
+    Bare = 15,
+    NotPassed = 16,
+    ClauseCut = 17,
 }
 
 impl Refusal {
     pub fn number(self) -> u8
         ensures { result ≡ numbered self }
     {
-        match self {
-            Refusal::FewRows => 1,
-            Refusal::ManyArguments => 2,
-            Refusal::ManyPredicates => 3,
-            Refusal::NoPredicate => 4,
-            Refusal::VariableCount => 5,
-            Refusal::ManyGoals => 6,
-            Refusal::Variable => 7,
-            Refusal::Callee => 8,
-            Refusal::Repeated => 9,
-            Refusal::ManyClauses => 10,
-            Refusal::NoClause => 11,
-            Refusal::MarkedSo => 12,
-            Refusal::NoRow => 13,
-            Refusal::Width => 14,
-            Refusal::Bare => 15,
-            Refusal::NotPassed => 16,
-            Refusal::ClauseCut => 17,
-        }
+        self as u8
     }
 
     // Why the call was refused, for a person.
@@ -82,3 +65,5 @@ impl fmt::Display for Refusal {
         write!(f, "refused, {number}: {reason}")
     }
 }
+
+impl Error for Refusal {}

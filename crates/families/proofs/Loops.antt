@@ -1,5 +1,5 @@
 -- One turn of each loop over sets and variables: what a turn adds to what the turns before it made. Assumes nothing.
-use Rattle.std.proofs.Common.{◌≡◌, ℕ, ◌+◌, ◌^◌, ◌<◌, ◌≤◌, Bool, ◌&&◌, ◌||◌, T, eqb, ltb, ◌↔◌, List, length, get_or, take, sym, ap, ◌∙◌, subst, ⊎_elim, arith, eqb→eq, ltb→lt, lt→ltb, get_or-take}
+use Rattle.std.proofs.Common.{◌≡◌, ℕ, ◌+◌, ◌^◌, ◌<◌, ◌≤◌, Bool, ◌&&◌, ◌||◌, T, eqb, ltb, ◌↔◌, List, length, get_or, take, sym, ap, ◌∙◌, subst, ⊎_elim, arith, eqb→eq, lt→ltb, get_or-take}
 use lib.Bits.{bit_or}
 use lib.Dec.{eqb_refl}
 use Rattle.std.proofs.lemmas.List.{length-take}
@@ -7,50 +7,9 @@ use Rattle.std.proofs.lemmas.Bool.{cases_eq}
 use Rattle.families.specs.Masks.{bit, cut}
 use Rattle.families.specs.Unions.{Selection, Inside, together}
 use Rattle.families.specs.Words.{sets}
-use Rattle.domain.proofs.Booleans.{and_split, and_pair, or_split, or_left, or_right, same_test}
+use Rattle.domain.proofs.Booleans.{and_split, and_pair, or_split, or_left, or_right}
 use Rattle.families.proofs.Masks.{same_bits, bit_of_or, bit_cut, bit_power, power_bit}
 use Rattle.families.proofs.Unions.{together_one, one_together, members, member_passes, passes_member}
-
--- ---- the sets that pass, so far below n
-
-module _ (keep before : ℕ → Bool) (n : ℕ) (so_far : (h : ℕ) → before h ≡ (ltb h n && keep h)) where
-  old : (h : ℕ) → T (before h) → (h < n) × T (keep h)
-  old h t = let k = and_split (ltb h n) (keep h) (subst T (so_far h) t) in (ltb→lt h n k.0, k.1)
-
-  new : (h : ℕ) → h < n → T (keep h) → T (before h)
-  new h l t = subst T (sym (so_far h)) (and_pair (ltb h n) (keep h) (lt→ltb h n l) t)
-
-  pub filter_in : (after : ℕ → Bool) → n < sets → T (keep n) → ((h : ℕ) → after h ≡ (before h || (eqb h n && ltb n sets))) → (h : ℕ) → after h ≡ (ltb h (n + 1) && keep h)
-  filter_in after low here made h =
-      same_test (after h) (ltb h (n + 1) && keep h)
-      (λ t.
-      ⊎_elim (λ b. let k = old h b in and_pair (ltb h (n + 1)) (keep h) (lt→ltb h (n + 1) (let l = k.0 in omega arith)) k.1)
-      (λ e.
-      let same = eqb→eq h n (and_split (eqb h n) (ltb n sets) e).0 in
-      and_pair (ltb h (n + 1)) (keep h) (lt→ltb h (n + 1) (omega arith)) (subst (λ (k : ℕ). T (keep k)) (sym same) here))
-      (or_split (before h) (eqb h n && ltb n sets) (subst T (made h) t)))
-      (λ t.
-      let (l, k) = and_split (ltb h (n + 1)) (keep h) t in
-      let below = ltb→lt h (n + 1) l in
-      subst T (sym (made h))
-      (⊎_elim
-      (λ e.
-      or_right (before h) (eqb h n && ltb n sets)
-      (and_pair (eqb h n) (ltb n sets) (subst (λ (j : ℕ). T (eqb h j)) e (eqb_refl h)) (lt→ltb n sets low)))
-      (λ d. or_left (before h) (eqb h n && ltb n sets) (new h (omega arith) k)) (cases_eq h n)))
-
-  pub filter_out : (T (keep n) → ⊥) → (h : ℕ) → before h ≡ (ltb h (n + 1) && keep h)
-  filter_out gone h =
-      same_test (before h) (ltb h (n + 1) && keep h)
-      (λ t. let k = old h t in and_pair (ltb h (n + 1)) (keep h) (lt→ltb h (n + 1) (let l = k.0 in omega arith)) k.1)
-      (λ t.
-      let (l, k) = and_split (ltb h (n + 1)) (keep h) t in
-      let below = ltb→lt h (n + 1) l in
-      ⊎_elim (λ e. absurd (gone (subst (λ (j : ℕ). T (keep j)) e k))) (λ d. new h (omega arith) k) (cases_eq h n))
-
-  -- after the last one
-  pub filter_end : sets ≤ n → ((h : ℕ) → T (keep h) → h < sets) → (h : ℕ) → before h ≡ keep h
-  filter_end far low h = same_test (before h) (keep h) (λ t. (old h t).1) (λ t. new h (let l = low h t in omega arith) t)
 
 -- ---- the cuts of the sets below n
 

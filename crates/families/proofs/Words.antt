@@ -1,6 +1,7 @@
 -- What lies in words, word by word: the laws of `lies` that the code over words stands on. Over any number of words.
 -- Assumes nothing.
-use Rattle.std.proofs.Common.{◌≡◌, ℕ, zero, suc, ◌+◌, ◌*◌, ◌/◌, ◌%◌, ◌^◌, ◌<◌, ◌≤◌, Bool, false, ◌&&◌, ◌||◌, T, eqb, ltb, List, length, get_or, set, sym, ap, ◌∙◌, subst, ap₂, ⊎_elim, arith, eqb→eq, ltb→lt, lt→ltb, get_or-set_other, get_or-set_same}
+use Rattle.std.proofs.Common.{◌≡◌, ℕ, zero, suc, ◌+◌, ◌*◌, ◌/◌, ◌%◌, ◌^◌, ◌<◌, ◌≤◌, Bool, false, ◌&&◌, ◌||◌, T, eqb, ltb, List, [], ◌∷◌, length, get_or, set, sym, ap, ◌∙◌, subst, ap₂, ⊎_elim, arith, eqb→eq, ltb→lt, lt→ltb, get_or-set_other, get_or-set_same}
+use Rattle.std.specs.List.{list_all, zip}
 use lib.Bits.{bit_or}
 use lib.Count.{ones}
 use lib.Dec.{eqb_refl}
@@ -107,6 +108,27 @@ within_or us vs k fits each = same_bits (bit_or a b) b to from
 
     from : (i : ℕ) → T (bit b i) → T (bit (bit_or a b) i)
     from i t = subst T (sym (bit_of_or a b i)) (or_right (bit a i) (bit b i) t)
+
+-- ---- a test of each two words
+
+-- the second has each bit of the first
+abbrev pub no_more : ℕ × ℕ → Bool
+no_more p = eqb (bit_or p.0 p.1) p.1
+
+pub zipped_at : (us vs : List ℕ) (k : ℕ) → length us ≡ length vs → k < length us → T (list_all no_more (zip us vs)) → bit_or (get_or us k 0) (get_or vs k 0) ≡ get_or vs k 0
+zipped_at [] vs k same low t = absurd (omega arith)
+zipped_at (u ∷ us) [] k same low t = absurd (omega arith)
+zipped_at (u ∷ us) (v ∷ vs) zero same low t = eqb→eq (bit_or u v) v (and_split (no_more (u, v)) (list_all no_more (zip us vs)) t).0
+zipped_at (u ∷ us) (v ∷ vs) (suc k) same low t =
+    zipped_at us vs k (omega arith) (omega arith) (and_split (no_more (u, v)) (list_all no_more (zip us vs)) t).1
+
+pub at_zipped : (us vs : List ℕ) → length us ≡ length vs → ((k : ℕ) → k < length us → bit_or (get_or us k 0) (get_or vs k 0) ≡ get_or vs k 0) → T (list_all no_more (zip us vs))
+at_zipped [] vs same each = tt
+at_zipped (u ∷ us) [] same each = tt
+at_zipped (u ∷ us) (v ∷ vs) same each =
+    and_pair (no_more (u, v)) (list_all no_more (zip us vs))
+    (subst (λ (w : ℕ). T (eqb w v)) (sym (each 0 (omega arith))) (eqb_refl v))
+    (at_zipped us vs (omega arith) (λ k low. each (suc k) (omega arith)))
 
 -- ---- counting, word by word
 

@@ -29,6 +29,10 @@ Included e f = (g : ℕ) → T (holds e g) → T (holds f g)
 abbrev pub Part : Family → (ℕ → Bool) → Family → Type 0
 Part f p r = (g : ℕ) → holds r g ≡ (holds f g && p g)
 
+-- The sets of f at which a test says yes: `Says g b` where b may be its answer at g.
+abbrev pub Passing : Family → (ℕ → Bool → Type 0) → Family → Type 0
+Passing f Says r = Included r f × ((g : ℕ) → T (holds f g) → Says g (holds r g))
+
 -- the sets of f, cut down to the variables xs
 abbrev pub Cuts : Family → List ℕ → Family → Type 0
 Cuts f xs r = (h : ℕ) → T (holds r h) ↔ ((g : ℕ) × T (holds f g) × (h ≡ cut xs g))

@@ -1,5 +1,5 @@
 -- Sets of variables as they are listed: which family they make, and when they are refused.
-use Rattle.std.specs.Prelude.{◌≡◌, ℕ, ◌<◌, ◌≤◌, T, ◌⊎◌, ◌↔◌, List, [], ◌∷◌, Result, MatchResult}
+use Rattle.std.specs.Prelude.{◌≡◌, ℕ, ◌<◌, ◌≤◌, T, ◌⊎◌, ◌↔◌, List, [], ◌∷◌, Option, Some, None, Result, MatchResult}
 use Rattle.std.specs.Borrow.{Bor}
 use Rattle.domain.specs.declared.refusal.Refusal.{Refusal}
 use Rattle.domain.specs.declared.refusal.Refusal.TheVariants.{Width, Variable}
@@ -7,8 +7,6 @@ use Rattle.domain.specs.Variables.{Listed, Below, widest}
 use Rattle.families.specs.Masks.{bit}
 use Rattle.families.specs.Words.{holds, sets}
 use Rattle.families.specs.declared.family.Family.{Family}
-use Rattle.families.specs.declared.listing.Listing.{Listing}
-use Rattle.families.specs.declared.listing.Listing.TheVariants.{Never, Sets}
 
 -- each variable of each set is below n
 abbrev pub Within : ℕ → List (Bor (List ℕ)) → Type 0
@@ -24,15 +22,19 @@ abbrev pub Codes : List (Bor (List ℕ)) → ℕ → Type 0
 Codes [] g = ⊥
 Codes (xs ∷ xss) g = Coded xs.now g ⊎ Codes xss g
 
+-- the sets listed, or none at all for never
+abbrev pub Listing : Type 0
+Listing = Option (Bor (List (Bor (List ℕ))))
+
 -- every variable listed is below n
 abbrev pub InBounds : ℕ → Listing → Type 0
-InBounds n Never = Unit {0}
-InBounds n (Sets xss) = Within n xss.now
+InBounds n None = Unit {0}
+InBounds n (Some xss) = Within n xss.now
 
 -- h is one of the sets meant: none is for never; else the core is, and those listed
 abbrev pub Meant : ℕ → Listing → ℕ → Type 0
-Meant core Never h = ⊥
-Meant core (Sets xss) h = ((h ≡ core) × (core < sets)) ⊎ Codes xss.now h
+Meant core None h = ⊥
+Meant core (Some xss) h = ((h ≡ core) × (core < sets)) ⊎ Codes xss.now h
 
 -- the first test that fails
 abbrev pub Refused : ℕ → Listing → Refusal → Type 0

@@ -1,13 +1,15 @@
 // A set of sets of variables, one bit for each set.
-ghost use Rattle.std.specs.Prelude.{◌≡◌, ℕ, Bool, T, take};
+ghost use Rattle.std.specs.Prelude.{◌≡◌, ℕ, Bool, T, take, ◌<◌, ◌==◌, bit_or, slice_index, ◌^◌};
+ghost use Rattle.std.specs.List.{list_all, zip};
 ghost use Rattle.domain.specs.Variables.{widest};
-ghost use Rattle.families.specs.Families.{Nothing, Everything, Added, Either, Included, Part, Cuts, AllUnions, UnionWithin};
+ghost use Rattle.families.specs.Families.{Nothing, Everything, Added, Either, Included, Passing, Cuts, AllUnions, UnionWithin};
 ghost use Rattle.families.specs.Masks.{count as counted};
-ghost use Rattle.families.specs.Words.{holds, sets};
+ghost use Rattle.families.specs.Words.{holds, sets, word_count};
 
 use super::mask;
 use super::mask::Mask;
 use domain::WIDEST;
+use std::array;
 
 // How many sets there are of variables below the largest width, and how many words hold a bit for each.
 pub const SETS: usize = 1 << WIDEST;
@@ -17,14 +19,6 @@ const WORDS: usize = SETS / 64;
 #[derive(Clone, Copy)]
 pub struct Family {
     words: [u64; WORDS],
-}
-
-// A test of sets, to filter a family by.
-pub trait Test {
-    ghost passes: { Self → ℕ → Bool };
-
-    fn admits(&self, g: Mask) -> bool
-        ensures { result ≡ passes self.now g };
 }
 
 impl Family {
@@ -65,11 +59,9 @@ impl Family {
     pub fn union(&self, other: &Family) -> Family
         ensures { Either self.now other.now result }
     {
-        let mut words = [0; WORDS];
-        for i in 0..WORDS {
-            words[i] = self.words[i] | other.words[i];
+        Family {
+            words: either(&self.words, &other.words),
         }
-        Family { words }
     }
 
     // Whether each set of this family is one of the other's.
@@ -77,12 +69,7 @@ impl Family {
         ensures yes { T result → Included self.now other.now }
         ensures only { Included self.now other.now → T result }
     {
-        for k in 0..WORDS {
-            if self.words[k] | other.words[k] != other.words[k] {
-                return false;
-            }
-        }
-        true
+        none_more(&self.words, &other.words)
     }
 
     // How many sets there are: the ones in the words.
@@ -103,13 +90,14 @@ impl Family {
         self.within(&Family::new())
     }
 
-    // The sets that pass the test.
-    pub fn filtered<P: Test>(&self, test: &P) -> Family
-        ensures { Part self.now (P.Test.passes test.now) result }
+    // The sets at which the test says yes.
+    pub fn filtered<F: Fn(Mask) -> bool>(&self, passes: F) -> Family
+        requires { F.IsAlwaysCallable passes }
+        ensures { Passing self.now (F.post passes) result }
     {
         let mut passing = Family::new();
         for g in 0..SETS {
-            if self.has(g) && test.admits(g) {
+            if self.has(g) && passes(g) {
                 passing.insert(g);
             }
         }
@@ -154,4 +142,22 @@ impl Family {
         }
         all
     }
+}
+
+// The words with the bits of both.
+fn either(words: &[u64; WORDS], others: &[u64; WORDS]) -> [u64; WORDS]
+    ensures { (k : ℕ) → k < word_count → slice_index result k ≡ bit_or (slice_index words.now k) (slice_index others.now k) }
+{
+    array::from_fn(|k| words[k] | others[k])
+}
+
+// Whether the second words have each bit of the first.
+fn none_more(words: &[u64; WORDS], others: &[u64; WORDS]) -> bool
+    ensures test { result ≡ list_all (λ p. bit_or p.0 p.1 == p.1) (zip words.now others.now) }
+    ensures fit { (k : ℕ) → slice_index words.now k < 2 ^ 64 }
+{
+    words
+        .iter()
+        .zip(others)
+        .all(|(word, other)| word | other == *other)
 }

@@ -8,6 +8,6 @@ mod listing;
 pub mod mask;
 mod show;
 
-pub use family::{Family, SETS, Test};
+pub use family::{Family, SETS};
 pub use listing::Listing;
 pub use mask::Mask;

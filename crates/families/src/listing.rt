@@ -8,33 +8,28 @@ use super::mask;
 use super::mask::Mask;
 use domain::{Refusal, WIDEST, variables};
 
-// No set at all, or those listed; their order counts for nothing, nor does it count how often something is listed.
-#[derive(Clone, Copy)]
-pub enum Listing<'s, 'v> {
-    Never,
-    Sets(&'s [&'v [u8]]),
-}
+// The sets listed, or none at all for never; their order counts for nothing, nor does it count how often something is
+// listed.
+pub type Listing<'s, 'v> = Option<&'s [&'v [u8]]>;
 
-impl<'s, 'v> Listing<'s, 'v> {
-    // The sets listed with the core, or none for never. It refuses a width past the largest, then a listed variable that
+impl Family {
+    // The sets listed with the core, or no set for never. It refuses a width past the largest, then a listed variable that
     // is not below the width.
-    pub fn family(self, width: u8, core: Mask) -> Result<Family, Refusal>
-        ensures { Lists width core self.entry result }
+    pub fn listed(width: u8, sets: Listing, core: Mask) -> Result<Family, Refusal>
+        ensures { Lists width core sets.entry result }
     {
         if width > WIDEST {
             return Err(Refusal::Width);
         }
-        match self {
-            Listing::Never => Ok(Family::new()),
-            Listing::Sets(sets) => {
-                if !within(sets, width) {
-                    return Err(Refusal::Variable);
-                }
-                let mut family = listed(sets);
-                family.insert(core);
-                Ok(family)
-            }
+        let Some(sets) = sets else {
+            return Ok(Family::new());
+        };
+        if !within(sets, width) {
+            return Err(Refusal::Variable);
         }
+        let mut family = coded(sets);
+        family.insert(core);
+        Ok(family)
     }
 }
 
@@ -52,7 +47,7 @@ fn within(sets: &[&[u8]], n: u8) -> bool
 }
 
 // The sets listed, as far as their variables are below the largest width.
-fn listed(sets: &[&[u8]]) -> Family
+fn coded(sets: &[&[u8]]) -> Family
     ensures { (g : ℕ) → T (holds result g) ↔ Codes sets.now g }
 {
     let mut made = Family::new();

@@ -1,5 +1,5 @@
 // A set of variables as a mask: variable i is in it where bit i is 1.
-ghost use Rattle.std.specs.Prelude.{◌≡◌, ◌<◌, min, take};
+ghost use Rattle.std.specs.Prelude.{◌≡◌, ◌<◌, ◌^◌, min, take, nat_lt};
 ghost use Rattle.domain.specs.Variables.{widest};
 ghost use Rattle.families.specs.MaskLaws.{SameLaw, AloneLaw, WholeLaw, CodedLaw, CutLaw, MeetsLaw, CoversLaw, OverlapsLaw};
 ghost use Rattle.families.specs.Masks.{bit, alone, whole, coded, cut as cut_down};
@@ -30,6 +30,14 @@ pub fn all(n: u8) -> Mask
     ensures { result ≡ whole (min n widest) }
 {
     (1 << n.min(WIDEST)) - 1
+}
+
+// Whether each variable of the set is below n.
+#[tactic(auto, using(std::proofs::Common::pow_mono))]
+pub(crate) fn lies_below(g: Mask, n: u8) -> bool
+    ensures { result ≡ nat_lt g (2 ^ n) }
+{
+    n >= 64 || g < 1 << n
 }
 
 // The variables listed, as far as they are below the largest width.
@@ -65,7 +73,7 @@ pub(crate) fn cut(g: Mask, xs: &[u8]) -> Mask
 }
 
 // The definitions that the contracts here and above cite, in plain words.
-pub fn masks_stand() -> u8
+pub fn masks_stand()
     ensures same { SameLaw }
     ensures alone { AloneLaw }
     ensures whole { WholeLaw }
@@ -74,6 +82,4 @@ pub fn masks_stand() -> u8
     ensures meets { MeetsLaw }
     ensures covers { CoversLaw }
     ensures overlaps { OverlapsLaw }
-{
-    0
-}
+{}

@@ -1,7 +1,6 @@
 -- Figures, and when they stand: where the definitions of the domain give the value expected.
-use Rattle.std.specs.Prelude.{◌≡◌, ℕ, zero, suc, ◌^◌, Bool, false, ◌||◌, List, [], ◌∷◌, map, ◌==◌}
-use Rattle.families.specs.declared.listing.Listing.{Listing}
-use Rattle.families.specs.declared.listing.Listing.TheVariants.{Never, Sets}
+use Rattle.std.specs.Prelude.{◌≡◌, ℕ, zero, suc, ◌^◌, Bool, false, ◌||◌, List, [], ◌∷◌, Some, None, map, ◌==◌}
+use Rattle.families.specs.Listings.{Listing}
 use Rattle.families.specs.Masks.{coded}
 use Rattle.rows.specs.Values.{Value, viewed}
 use Rattle.sharing.specs.Sharing.{tied as shared_tied, entered as shared_entered, backed as shared_backed}
@@ -15,8 +14,8 @@ use Rattle.figures.specs.declared.figure.Figure.{Figure}
 
 -- the sets listed, as masks
 abbrev pub masks : Listing → List ℕ
-masks Never = []
-masks (Sets xss) = map (λ xs. coded xs.now) xss.now
+masks None = []
+masks (Some xss) = map (λ xs. coded xs.now) xss.now
 
 -- g is one of them
 abbrev pub among : List ℕ → ℕ → Bool

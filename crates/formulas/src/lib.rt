@@ -3,7 +3,6 @@
 // It knows no program and no book.
 #![tactic(auto)]
 
-mod filters;
 mod formulas;
 mod making;
 mod models;

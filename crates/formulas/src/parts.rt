@@ -1,17 +1,19 @@
 // The parts of the functions: tests of their arguments, and the values that they make of the models read.
-ghost use Rattle.std.specs.Prelude.{◌≡◌, T, length, take};
+ghost use Rattle.std.specs.Prelude.{◌≡◌, ℕ, ◌&&◌, ◌==◌, T, bit_and, bit_or, length, nat_lt, take};
 ghost use Rattle.domain.specs.Model.{Sides, Room, AlwaysGround, AlwaysApart};
 ghost use Rattle.domain.specs.Variables.{widest, Below as InRange};
+ghost use Rattle.families.specs.Families.{Part};
+ghost use Rattle.families.specs.Masks.{bit};
+ghost use Rattle.families.specs.Words.{holds, sets};
 ghost use Rattle.rows.specs.declared.row.Core.TheVariants.{Full};
 ghost use Rattle.rows.specs.Rows.{read as read_row, Off, ViewReads, ViewFollows};
-ghost use Rattle.formulas.specs.Formulas.{formulas as the_model, read, entered as the_entry};
+ghost use Rattle.formulas.specs.Formulas.{formulas as the_model, read, alike, entered as the_entry};
 ghost use Rattle.formulas.specs.Rules.{EnterRule};
 ghost use Rattle.formulas.specs.Bounds.{TieReads, TieFollows, unknown, ViewPast, Matches, BackReads, BackFollows, GroundFollows, ApartFollows};
 
-use super::filters::{Agrees, Extends};
 use super::models::Models;
 use domain::{Domain, variables};
-use families::{Family, mask};
+use families::{Family, Mask, mask};
 use rows::{Core, Row};
 
 // The value with a place for each of the first variables listed, of which nothing is known.
@@ -25,6 +27,20 @@ pub(crate) fn unknown_at(xs: &[u8]) -> Models
             map: Family::all(),
         },
     }
+}
+
+// The models that have x exactly when they have all of ys.
+fn agreeing(models: &Family, x: u8, ys: Mask) -> Family
+    ensures { Part models.now (λ g. alike (bit g x) (bit_or ys g == g)) result }
+{
+    models.filtered(|g| mask::contains(g, x) == (ys | g == g))
+}
+
+// Every set that has one of the models where the low variables are concerned.
+fn extending(models: &Family, low: Mask) -> Family
+    ensures { (g : ℕ) → holds result g ≡ (nat_lt g sets && holds models.now (bit_and g low)) }
+{
+    Family::all().filtered(|g| models.has(g & low))
 }
 
 impl Models {
@@ -45,10 +61,7 @@ impl Models {
         if !self.has_sides(x, ys) {
             return *self;
         }
-        let map = models.filtered(&Agrees {
-            x,
-            ys: mask::of(ys),
-        });
+        let map = agreeing(models, x, mask::of(ys));
         Models {
             row: Row {
                 width: self.width(),
@@ -79,10 +92,7 @@ impl Models {
         ensures reads { read result ≡ the_entry (read self.now) v }
         ensures rule { EnterRule (read self.now) v (read result) }
     {
-        let map = Family::all().filtered(&Extends {
-            low: mask::all(self.width()),
-            models,
-        });
+        let map = extending(models, mask::all(self.width()));
         Models {
             row: Row { width: v, map },
         }

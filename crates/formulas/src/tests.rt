@@ -2,7 +2,7 @@
 // bounds.
 use super::models::Models;
 use domain::{Domain, Refusal};
-use families::{Family, Listing, mask};
+use families::{Family, mask};
 use rows::Row;
 use std::mem::size_of;
 use std::test::Fail;
@@ -27,7 +27,7 @@ fn refuses(answer: Result<(), Refusal>, number: u8) -> Result<(), Fail> {
 // The value of the width with these models.
 fn value(width: u8, sets: &[&[u8]]) -> Result<Models, Refusal> {
     let mut place = Models::never(0);
-    Models::make(width, Listing::Sets(sets), &mut place)?;
+    Models::make(width, Some(sets), &mut place)?;
     Ok(place)
 }
 
@@ -41,15 +41,12 @@ fn models(width: u8, map: Family) -> Models {
 #[test]
 fn a_refused_make_leaves_its_place(rt: HostRuntime) -> Result<(), Fail> {
     let mut place = value(3, &[&[0, 2], &[1]])?;
-    refuses(Models::make(9, Listing::Never, &mut place), 14)?;
-    refuses(Models::make(9, Listing::Sets(&[&[200]]), &mut place), 14)?;
-    refuses(
-        Models::make(3, Listing::Sets(&[&[1], &[0, 3]]), &mut place),
-        7,
-    )?;
-    refuses(Models::make(0, Listing::Sets(&[&[0]]), &mut place), 7)?;
+    refuses(Models::make(9, None, &mut place), 14)?;
+    refuses(Models::make(9, Some(&[&[200]]), &mut place), 14)?;
+    refuses(Models::make(3, Some(&[&[1], &[0, 3]]), &mut place), 7)?;
+    refuses(Models::make(0, Some(&[&[0]]), &mut place), 7)?;
     shows(&rt, &place, "{1,02,012}")?;
-    assert!(rt; Models::make(2, Listing::Never, &mut place).is_ok());
+    assert!(rt; Models::make(2, None, &mut place).is_ok());
     shows(&rt, &place, "never")?;
     assert_eq!(rt; place.width(), 2);
     Ok(())

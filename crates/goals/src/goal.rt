@@ -3,7 +3,7 @@ ghost use Rattle.std.specs.Prelude.{◌≡◌, T};
 ghost use Rattle.domain.specs.Variables.{Below as InRange};
 ghost use Rattle.goals.specs.Goals.{left_of, right_of, variables};
 
-use domain::variables;
+use super::sides::Sides;
 use std::{array, fmt};
 
 #[derive(Clone, Copy)]
@@ -40,16 +40,18 @@ impl<'a> Goal<'a> {
         ensures yes { T result → InRange n (variables self.now) }
         ensures only { InRange n (variables self.now) → T result }
     {
-        self.sides_within(self.left(), self.right(), n)
+        self.sides().within(n)
     }
 
-    fn sides_within(&self, x: u8, ys: &[u8], n: u8) -> bool
-        requires x { x ≡ left_of self.now }
-        requires ys { ys.now ≡ right_of self.now }
-        ensures yes { T result → InRange n (variables self.now) }
-        ensures only { InRange n (variables self.now) → T result }
+    // Its two sides.
+    pub(crate) fn sides(&self) -> Sides<'_>
+        ensures x { result.x ≡ left_of self.now }
+        ensures ys { result.ys.now ≡ right_of self.now }
     {
-        x < n && variables::below(ys, n)
+        Sides {
+            x: self.left(),
+            ys: self.right(),
+        }
     }
 }
 

@@ -4,6 +4,7 @@
 
 mod follow;
 mod goal;
+mod sides;
 
 pub use follow::{after, side};
 pub use goal::Goal;

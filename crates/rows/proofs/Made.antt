@@ -1,10 +1,9 @@
 -- Sets listed within a width make the value of those sets with the core. Assumes nothing.
+use Rattle.std.specs.Prelude.{Some, None}
 use Rattle.std.proofs.Common.{◌≡◌, ℕ, ◌^◌, ◌<◌, ◌≤◌, min, T, ◌↔◌, List, [], ◌∷◌, sym, refl, subst, inl, inr, arith, pow_mono, Bor}
 use Rattle.domain.specs.Variables.{widest}
 use Rattle.families.specs.declared.family.Family.{Family}
-use Rattle.families.specs.declared.listing.Listing.{Listing}
-use Rattle.families.specs.declared.listing.Listing.TheVariants.{Never, Sets}
-use Rattle.families.specs.Listings.{Within, Codes, InBounds, Meant}
+use Rattle.families.specs.Listings.{Listing, Within, Codes, InBounds, Meant}
 use Rattle.families.specs.Words.{holds, sets}
 use Rattle.families.proofs.Masks.{bits_below}
 use Rattle.rows.specs.declared.row.Core.{Core}
@@ -23,14 +22,14 @@ codes_below n (xs ∷ xss) g within (inr c) = codes_below n xss g within.1 c
 
 -- a set that is meant lies below the width
 meant_below : (c : Core) (n : ℕ) (l : Listing) (h : ℕ) → InBounds n l → Meant (core c n) l h → h < 2 ^ n
-meant_below c n Never h bounds k = elim k [ ]
-meant_below c n (Sets xss) h bounds (inl e) = subst (λ (k : ℕ). k < 2 ^ n) (sym e.0) (core_low c n)
-meant_below c n (Sets xss) h bounds (inr k) = codes_below n xss.now h bounds k
+meant_below c n None h bounds k = elim k [ ]
+meant_below c n (Some xss) h bounds (inl e) = subst (λ (k : ℕ). k < 2 ^ n) (sym e.0) (core_low c n)
+meant_below c n (Some xss) h bounds (inr k) = codes_below n xss.now h bounds k
 
 -- where one is meant, so is the core
 meant_core : (k : ℕ) → k < sets → (l : Listing) (h : ℕ) → Meant k l h → Meant k l k
-meant_core k low Never h m = m
-meant_core k low (Sets xss) h m = inl (refl, low)
+meant_core k low None h m = m
+meant_core k low (Some xss) h m = inl (refl, low)
 
 pub gives_meant : (c : Core) (n : ℕ) → n ≤ widest → (l : Listing) → InBounds n l → (f : Family) → ((h : ℕ) → T (holds f h) ↔ Meant (core c (min n widest)) l h) →
     Gives n (Meant (core c n) l) (read c (record { width = n; map = f }))

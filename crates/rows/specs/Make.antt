@@ -2,8 +2,7 @@
 use Rattle.std.specs.Prelude.{◌≡◌, ℕ, ◌≤◌, Result, MatchResult}
 use Rattle.domain.specs.declared.refusal.Refusal.{Refusal}
 use Rattle.domain.specs.Variables.{widest}
-use Rattle.families.specs.declared.listing.Listing.{Listing}
-use Rattle.families.specs.Listings.{InBounds, Meant, Refused}
+use Rattle.families.specs.Listings.{Listing, InBounds, Meant, Refused}
 use Rattle.rows.specs.declared.row.Core.{Core}
 use Rattle.rows.specs.declared.row.Row.{Row}
 use Rattle.rows.specs.Rows.{core, read}

@@ -43,7 +43,7 @@ impl Row {
         ensures { MakesRow core width sets.entry result }
     {
         let first = core.of(width);
-        let map = sets.family(width, first)?;
+        let map = Family::listed(width, sets, first)?;
         Ok(made(width, sets, core, first, map))
     }
 

@@ -2,7 +2,7 @@
 // spell no value, and arguments out of bounds.
 use super::groups::Groups;
 use domain::{Domain, Refusal};
-use families::{Family, Listing, mask};
+use families::{Family, mask};
 use rows::Row;
 use std::mem::size_of;
 use std::test::Fail;
@@ -27,7 +27,7 @@ fn refuses(answer: Result<(), Refusal>, number: u8) -> Result<(), Fail> {
 // The value of the width with these groups.
 fn value(width: u8, sets: &[&[u8]]) -> Result<Groups, Refusal> {
     let mut place = Groups::never(0);
-    Groups::make(width, Listing::Sets(sets), &mut place)?;
+    Groups::make(width, Some(sets), &mut place)?;
     Ok(place)
 }
 
@@ -41,15 +41,12 @@ fn groups(width: u8, map: Family) -> Groups {
 #[test]
 fn a_refused_make_leaves_its_place(rt: HostRuntime) -> Result<(), Fail> {
     let mut place = value(3, &[&[0, 2], &[1]])?;
-    refuses(Groups::make(9, Listing::Never, &mut place), 14)?;
-    refuses(Groups::make(9, Listing::Sets(&[&[200]]), &mut place), 14)?;
-    refuses(
-        Groups::make(3, Listing::Sets(&[&[1], &[0, 3]]), &mut place),
-        7,
-    )?;
-    refuses(Groups::make(0, Listing::Sets(&[&[0]]), &mut place), 7)?;
+    refuses(Groups::make(9, None, &mut place), 14)?;
+    refuses(Groups::make(9, Some(&[&[200]]), &mut place), 14)?;
+    refuses(Groups::make(3, Some(&[&[1], &[0, 3]]), &mut place), 7)?;
+    refuses(Groups::make(0, Some(&[&[0]]), &mut place), 7)?;
     shows(&rt, &place, "{e,1,02}")?;
-    assert!(rt; Groups::make(2, Listing::Never, &mut place).is_ok());
+    assert!(rt; Groups::make(2, None, &mut place).is_ok());
     shows(&rt, &place, "never")?;
     assert_eq!(rt; place.width(), 2);
     Ok(())

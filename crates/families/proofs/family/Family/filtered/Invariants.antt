@@ -1,7 +1,10 @@
-use Rattle.std.proofs.Common.{◌≡◌, ℕ, ◌&&◌, ltb}
+use Rattle.std.proofs.Common.{ℕ, ◌<◌, T}
 use Rattle.families.specs.Words.{holds}
 use Rattle.families.proofs.family.Family.filtered.Given as goal
 
--- below g, the sets that pass
+-- of the sets below g, those that pass
 abbrev pub invariant-loop-g : goal.invariant-loop-g
-invariant-loop-g g l = (h : ℕ) → holds l.passing h ≡ (ltb h l.g && (holds l.self h && g.P.Test.passes l.test h))
+invariant-loop-g g l =
+    goal.F-IsAlwaysCallable g l.passes
+    × ((h : ℕ) → T (holds l.passing h) → (h < l.g) × T (holds l.self h))
+    × ((h : ℕ) → h < l.g → T (holds l.self h) → goal.F-post g l.passes h (holds l.passing h))

@@ -18,14 +18,13 @@ returns c =
     let a = read r in
     let v : ℕ = c.args.v in
     let models = holds c.args.models.now in
-    let made = holds c.filtered-map.result in
+    let made = holds c.extending-map.result in
     let (wide, narrow) = c.requires.room in
     let clamped : min c.width.result widest ≡ a.width = let e = c.width.ensures in omega arith in
-    let low : c.all-2.result ≡ whole a.width = c.all-2.ensures ∙ ap whole clamped in
+    let low : c.all.result ≡ whole a.width = c.all.ensures ∙ ap whole clamped in
     let made_is : (g : ℕ) → made g ≡ (ltb g sets && models (bit_and g (whole a.width))) = λ g.
-    subst (λ (m : ℕ). made g ≡ (holds c.all.result g && models (bit_and g m))) low (c.filtered-map.ensures g)
-    ∙ ap (λ b. b && models (bit_and g (whole a.width))) (c.all.ensures g) in
-    let reads : read (record { row = record { width = v; map = c.filtered-map.result } }) ≡ entered a v =
-    stored Full v c.filtered-map.result (entered a v) refl narrow (entered_fits a v) (entered_cored a v wide (read_cored Full r.row))
+    subst (λ (m : ℕ). made g ≡ (ltb g sets && models (bit_and g m))) low (c.extending-map.ensures g) in
+    let reads : read (record { row = record { width = v; map = c.extending-map.result } }) ≡ entered a v =
+    stored Full v c.extending-map.result (entered a v) refl narrow (entered_fits a v) (entered_cored a v wide (read_cored Full r.row))
     (entered_is a models c.requires.models made v narrow made_is) in
     record { reads = reads; rule = subst (EnterRule a v) (sym reads) (entered_rule a (read_fits Full r.row) v) }

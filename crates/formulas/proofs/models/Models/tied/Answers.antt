@@ -26,13 +26,13 @@ returns c =
     let x : ℕ = c.args.x in
     let ys : List ℕ = c.args.ys.now in
     let models = holds c.args.models.now in
-    let made = holds c.filtered-map.result in
+    let made = holds c.agreeing-map.result in
     let narrow = read_narrow v.row in
     let sides = c.if-not-has_sides.ensures.yes tt in
     let low : Below widest ys = λ y l. let below = sides.1 y l in omega arith in
-    let made_is = subst (λ (m : ℕ). (g : ℕ) → made g ≡ (models g && alike (bit g x) (eqb (bit_or m g) g))) c.of.ensures c.filtered-map.ensures in
-    let reads : read (record { row = record { width = c.width.result; map = c.filtered-map.result } }) ≡ tied a x ys =
-    stored Full c.width.result c.filtered-map.result (tied a x ys) c.width.ensures narrow
+    let made_is = subst (λ (m : ℕ). (g : ℕ) → made g ≡ (models g && alike (bit g x) (eqb (bit_or m g) g))) c.of.ensures c.agreeing-map.ensures in
+    let reads : read (record { row = record { width = c.width.result; map = c.agreeing-map.result } }) ≡ tied a x ys =
+    stored Full c.width.result c.agreeing-map.result (tied a x ys) c.width.ensures narrow
     (tied_fits a x ys (read_fits Full v.row)) (tied_cored a x ys sides.0 sides.1 (read_cored Full v.row))
     (λ h l. tied_is a models c.requires made x ys low made_is h) in
     record { reads = λ _. reads; rule = λ _. subst (TieRule a x ys) (sym reads) (tied_rule a x ys); past = λ no. absurd (no sides) }

@@ -7,11 +7,11 @@ use Rattle.sharing.proofs.sharing.GroupsDomain.TheImpl.Goals as goal
 pub view-tells : goal.view-tells
 view-tells c =
     let v = c.args.self.now in
-    c.ensures.reads ∙ ap (viewed (read v)) (all_taken v.row c.args.xs.now c.requires.within c.requires.different)
+    c.ensures.reads ∙ ap (viewed (read v)) (all_taken v.row c.args.xs.now c.requires.0 c.requires.1)
 
 pub back-tells : goal.back-tells
 back-tells c =
     let v = c.args.self.now in
     c.ensures.reads
     ∙ ap (λ (args : List ℕ). backed (read v) args (read c.args.end.now))
-    (all_taken v.row c.args.args.now c.requires.within c.requires.different)
+    (all_taken v.row c.args.args.now c.requires.arguments.0 c.requires.arguments.1)

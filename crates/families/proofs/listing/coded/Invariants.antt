@@ -1,7 +1,7 @@
 use Rattle.std.proofs.Common.{ℕ, T, ◌↔◌, take}
 use Rattle.families.specs.Listings.{Codes}
 use Rattle.families.specs.Words.{holds}
-use Rattle.families.proofs.listing.listed.Given as goal
+use Rattle.families.proofs.listing.coded.Given as goal
 
 -- the sets so far
 abbrev pub invariant-loop-set : goal.invariant-loop-set

@@ -4,7 +4,7 @@ use Rattle.families.specs.Listings.{Codes, Coded}
 use Rattle.families.specs.Words.{holds}
 use Rattle.families.proofs.Masks.{coded_bits}
 use Rattle.families.proofs.Listings.{codes_in}
-use Rattle.families.proofs.listing.listed.Goals as goal
+use Rattle.families.proofs.listing.coded.Goals as goal
 
 pub loop-set-preserved : goal.loop-set-preserved
 loop-set-preserved c =
