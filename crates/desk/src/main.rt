@@ -7,7 +7,7 @@ mod differences;
 mod report;
 
 use clause::{Clause, Rows};
-use domain::{Domain, Refusal};
+use domain::Refusal;
 use formulas::Models;
 use goals::Goal;
 use sharing::Groups;
@@ -52,9 +52,8 @@ fn rehearse(rt: &HostRuntime) -> anyhow::Result<()> {
 
 // One of the two titles is known when the clause is called, and they share nothing.
 fn entry(arguments: u8) -> Result<Rows, Refusal> {
-    let mut groups = Groups::never(0);
-    Groups::make(arguments, Some(&[&[0], &[1]]), &mut groups)?;
-    let mut models = Models::never(0);
-    Models::make(arguments, Some(&[&[0], &[1]]), &mut models)?;
-    Ok(Rows { groups, models })
+    Ok(Rows {
+        groups: Groups::listed(arguments, Some(&[&[0], &[1]]))?,
+        models: Models::listed(arguments, Some(&[&[0], &[1]]))?,
+    })
 }

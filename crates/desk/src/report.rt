@@ -105,6 +105,7 @@ fn neighbours(rt: &impl Print, clause: &Clause, start: &Rows) -> io::Result<()> 
     Ok(())
 }
 
+// The word for a verdict; a type with a `Display` of its own would say no more.
 fn answer(yes: bool) -> &'static str {
     if yes { "yes" } else { "no" }
 }

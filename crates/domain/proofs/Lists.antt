@@ -1,6 +1,5 @@
--- What is listed at the end of a list, and in a front of one; different numbers below a bound are few. Assumes nothing.
-use Rattle.std.proofs.Common.{◌≡◌, ℕ, zero, suc, ◌+◌, ◌<◌, ◌≤◌, ◌⊎◌, ◌↔◌, List, [], ◌∷◌, ◌++◌, length, get_or, take, sym, refl, ap, ◌∙◌, subst, inl, inr, ⊎_elim, arith}
-use Rattle.std.proofs.lemmas.List.{take_more}
+-- What is listed in two lists put together, and at a place of one; different numbers below a bound are few. Assumes nothing.
+use Rattle.std.proofs.Common.{◌≡◌, ℕ, zero, suc, ◌<◌, ◌≤◌, ◌⊎◌, List, [], ◌∷◌, ◌++◌, length, get_or, sym, refl, ap, ◌∙◌, subst, inl, inr, ⊎_elim, arith}
 use Rattle.std.proofs.lemmas.Bool.{cases_eq}
 use Rattle.domain.specs.Variables.{Listed, Different, Below}
 
@@ -17,16 +16,6 @@ listed_left i (x ∷ xs) ys (inr l) = inr (listed_left i xs ys l)
 pub listed_right : (i : ℕ) (xs ys : List ℕ) → Listed i ys → Listed i (xs ++ ys)
 listed_right i [] ys l = l
 listed_right i (x ∷ xs) ys l = inr (listed_right i xs ys l)
-
--- one more
-pub listed_more : (i k : ℕ) (xs : List ℕ) → k < length xs → Listed i (take (k + 1) xs) ↔ (Listed i (take k xs) ⊎ (i ≡ get_or xs k 0))
-listed_more i k xs low =
-    let e = take_more xs k 0 low in (
-      λ l. ⊎_elim inl (λ r. inr (⊎_elim (λ h. h) (λ n. absurd n) r)) (listed_append i (take k xs) (get_or xs k 0 ∷ []) (subst (Listed i) e l)),
-      λ h.
-          subst (Listed i) (sym e)
-          (⊎_elim (listed_left i (take k xs) (get_or xs k 0 ∷ [])) (λ r. listed_right i (take k xs) (get_or xs k 0 ∷ []) (inl r)) h),
-    )
 
 pub listed_at : (xs : List ℕ) (k : ℕ) → k < length xs → Listed (get_or xs k 0) xs
 listed_at [] k low = absurd (omega arith)

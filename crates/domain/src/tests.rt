@@ -17,8 +17,7 @@ fn a_refusal_tells_its_number_and_why(rt: HostRuntime) -> Result<(), Fail> {
         (Refusal::ClauseCut, "refused, 17: the clause is cut"),
     ];
     for (refusal, text) in told {
-        let shown = format!(in rt.alloc(); "{refusal}")?;
-        assert_eq!(rt; shown.as_str(), text);
+        assert_eq!(rt; refusal.to_string(rt.alloc())?.as_str(), text);
     }
     Ok(())
 }

@@ -8,3 +8,4 @@ pub mod Loops
 pub mod Listings
 pub mod Overlaps
 pub mod Spread
+pub mod Members

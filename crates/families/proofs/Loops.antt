@@ -1,76 +1,96 @@
 -- One turn of each loop over sets and variables: what a turn adds to what the turns before it made. Assumes nothing.
-use Rattle.std.proofs.Common.{◌≡◌, ℕ, ◌+◌, ◌^◌, ◌<◌, ◌≤◌, Bool, ◌&&◌, ◌||◌, T, eqb, ltb, ◌↔◌, List, length, get_or, take, sym, ap, ◌∙◌, subst, ⊎_elim, arith, eqb→eq, lt→ltb, get_or-take}
+use Rattle.std.proofs.Common.{cond, [], ◌∷◌, ◌++◌, refl, true, false, ◌⊎◌, inl, inr, ◌≡◌, ℕ, ◌+◌, ◌^◌, ◌<◌, ◌≤◌, Bool, ◌&&◌, ◌||◌, T, eqb, ltb, ◌↔◌, List, length, get_or, take, sym, ap, ◌∙◌, subst, ⊎_elim, arith, eqb→eq, lt→ltb, get_or-take}
 use lib.Bits.{bit_or}
+use Rattle.std.specs.List.{filter}
 use lib.Dec.{eqb_refl}
 use Rattle.std.proofs.lemmas.List.{length-take}
 use Rattle.std.proofs.lemmas.Bool.{cases_eq}
+use Rattle.domain.specs.Variables.{Listed}
 use Rattle.families.specs.Masks.{bit, cut}
 use Rattle.families.specs.Unions.{Selection, Inside, together}
-use Rattle.families.specs.Words.{sets}
-use Rattle.domain.proofs.Booleans.{and_split, and_pair, or_split, or_left, or_right}
+use Rattle.families.specs.Families.{inner_union}
+use Rattle.families.specs.Members.{sets_of}
+use Rattle.families.specs.declared.family.Family.{Family}
+use Rattle.families.specs.Words.{sets, holds}
+use Rattle.domain.proofs.Booleans.{and_split, and_pair, or_split, or_left, or_right, same_test}
+use Rattle.families.proofs.Members.{sets_all, listed_one_more, listed_before, listed_last}
 use Rattle.families.proofs.Masks.{same_bits, bit_of_or, bit_cut, bit_power, power_bit}
-use Rattle.families.proofs.Unions.{together_one, one_together, members, member_passes, passes_member}
+use Rattle.families.proofs.Unions.{together_one, one_together, fold_together}
 
--- ---- the cuts of the sets below n
+-- ---- one set more in a family
+
+module _ (before after : ℕ → Bool) (g : ℕ) (low : g < sets) (made : (h : ℕ) → after h ≡ (before h || (eqb h g && ltb g sets))) where
+  added_either : (h : ℕ) → T (after h) → T (before h) ⊎ (h ≡ g)
+  added_either h t =
+      ⊎_elim inl (λ new. inr (eqb→eq h g (and_split (eqb h g) (ltb g sets) new).0))
+      (or_split (before h) (eqb h g && ltb g sets) (subst T (made h) t))
+
+  added_old : (h : ℕ) → T (before h) → T (after h)
+  added_old h t = subst T (sym (made h)) (or_left (before h) (eqb h g && ltb g sets) t)
+
+  added_new : (h : ℕ) → h ≡ g → T (after h)
+  added_new h e =
+      subst T (sym (made h))
+      (or_right (before h) (eqb h g && ltb g sets)
+      (and_pair (eqb h g) (ltb g sets) (subst (λ (j : ℕ). T (eqb h j)) e (eqb_refl h)) (lt→ltb g sets low)))
+
+-- ---- those of the sets so far that pass a test
+
+-- an answer of yes, or else the other
+says_as : (Says : Bool → Type 0) (b : Bool) → (T b → Says true) → Says false → Says b
+says_as Says true passed failed = passed tt
+says_as Says false passed failed = failed
+
+-- `Says h b` where b may be the test's answer at h
+module _ (Says : ℕ → Bool → Type 0) (gs : List ℕ) (g : ℕ) (before : ℕ → Bool)
+    (had : (h : ℕ) → T (before h) → Listed h gs × Says h true) (said : (h : ℕ) → Listed h gs → Says h (before h)) where
+  abbrev More : (ℕ → Bool) → Type 0
+  More after = ((h : ℕ) → T (after h) → Listed h (gs ++ g ∷ []) × Says h true) × ((h : ℕ) → Listed h (gs ++ g ∷ []) → Says h (after h))
+
+  pub pass_in : (after : ℕ → Bool) → g < sets → Says g true → ((h : ℕ) → after h ≡ (before h || (eqb h g && ltb g sets))) → More after
+  pass_in after low pass made = (has, says)
+    where
+      has : (h : ℕ) → T (after h) → Listed h (gs ++ g ∷ []) × Says h true
+      has h t =
+          ⊎_elim (λ b. let k = had h b in (listed_before gs g h k.0, k.1))
+          (λ e. (listed_last gs g h e, subst (λ (j : ℕ). Says j true) (sym e) pass)) (added_either before after g low made h t)
+
+      same : (h : ℕ) → (h ≡ g → ⊥) → before h ≡ after h
+      same h other =
+          same_test (before h) (after h) (added_old before after g low made h)
+          (λ t. ⊎_elim (λ b. b) (λ e. absurd (other e)) (added_either before after g low made h t))
+
+      says : (h : ℕ) → Listed h (gs ++ g ∷ []) → Says h (after h)
+      says h l =
+          ⊎_elim
+          (λ e. subst (Says h) (sym (same_test (after h) true (λ t. tt) (λ t. added_new before after g low made h e))) (subst (λ (j : ℕ). Says j true) (sym e) pass))
+          (λ other. subst (Says h) (same h other) (said h (⊎_elim (λ m. m) (λ e. absurd (other e)) (listed_one_more gs g h l))))
+          (cases_eq h g)
+
+  pub pass_out : Says g false → More before
+  pass_out fail = (λ h t. let k = had h t in (listed_before gs g h k.0, k.1), says)
+    where
+      says : (h : ℕ) → Listed h (gs ++ g ∷ []) → Says h (before h)
+      says h l =
+          ⊎_elim (said h) (λ e. says_as (Says h) (before h) (λ t. (had h t).1) (subst (λ (j : ℕ). Says j false) (sym e) fail))
+          (listed_one_more gs g h l)
+
+-- ---- the cuts of the sets so far
 
 -- h is the image of one of them
-abbrev pub Image : (ℕ → Bool) → (ℕ → ℕ) → ℕ → ℕ → Type 0
-Image has f n h = (g : ℕ) × (g < n) × T (has g) × (h ≡ f g)
+abbrev Image : (ℕ → ℕ) → List ℕ → ℕ → Type 0
+Image f gs h = (g : ℕ) × Listed g gs × (h ≡ f g)
 
-module _ (has : ℕ → Bool) (f : ℕ → ℕ) (before : ℕ → Bool) (n : ℕ) (so_far : (h : ℕ) → T (before h) ↔ Image has f n h) where
-  pub image_in : (after : ℕ → Bool) → f n < sets → T (has n) → ((h : ℕ) → after h ≡ (before h || (eqb h (f n) && ltb (f n) sets))) → (h : ℕ) → T (after h) ↔ Image has f (n + 1) h
-  image_in after low here made h =
-      let new : Bool = eqb h (f n) && ltb (f n) sets in (
-        λ t.
-            ⊎_elim (λ b. let (g, l, k, e) = (so_far h).0 b in (g, omega arith, k, e))
-            (λ e. (n, omega arith, here, eqb→eq h (f n) (and_split (eqb h (f n)) (ltb (f n) sets) e).0))
-            (or_split (before h) new (subst T (made h) t)),
-        λ k.
-            let (g, l, held, e) = k in
-            subst T (sym (made h))
-            (⊎_elim
-            (λ same.
-            let e' : h ≡ f n = e ∙ ap f same in
-            or_right (before h) new
-            (and_pair (eqb h (f n)) (ltb (f n) sets) (subst (λ (j : ℕ). T (eqb h j)) e' (eqb_refl h)) (lt→ltb (f n) sets low)))
-            (λ d. or_left (before h) new ((so_far h).1 (g, omega arith, held, e))) (cases_eq g n)),
-      )
-
-  pub image_out : (T (has n) → ⊥) → (h : ℕ) → T (before h) ↔ Image has f (n + 1) h
-  image_out gone h = (
-    λ t. let (g, l, k, e) = (so_far h).0 t in (g, omega arith, k, e),
-    λ k.
-        let (g, l, held, e) = k in
-        ⊎_elim (λ same. absurd (gone (subst (λ (j : ℕ). T (has j)) same held))) (λ d. (so_far h).1 (g, omega arith, held, e)) (cases_eq g n),
-  )
-
--- ---- the union of the sets below n that lie within h
-
--- i is in one of them
-abbrev pub Covered : (ℕ → Bool) → ℕ → ℕ → ℕ → Type 0
-Covered has h n i = (g : ℕ) × (g < n) × T (has g) × Inside g h × T (bit g i)
-
-module _ (has : ℕ → Bool) (h n all : ℕ) (so_far : (i : ℕ) → T (bit all i) ↔ Covered has h n i) where
-  pub cover_in : T (has n) → Inside n h → (i : ℕ) → T (bit (bit_or all n) i) ↔ Covered has h (n + 1) i
-  cover_in here inner i = (
-    λ t.
-        ⊎_elim (λ b. let (g, l, k, m, o) = (so_far i).0 b in (g, omega arith, k, m, o)) (λ b. (n, omega arith, here, inner, b))
-        (or_split (bit all i) (bit n i) (subst T (bit_of_or all n i) t)),
-    λ k.
-        let (g, l, k₁, m, o) = k in
-        subst T (sym (bit_of_or all n i))
-        (⊎_elim (λ e. or_right (bit all i) (bit n i) (subst (λ (j : ℕ). T (bit j i)) e o))
-        (λ d. or_left (bit all i) (bit n i) ((so_far i).1 (g, omega arith, k₁, m, o))) (cases_eq g n)),
-  )
-
-  pub cover_out : (T (has n) → Inside n h → ⊥) → (i : ℕ) → T (bit all i) ↔ Covered has h (n + 1) i
-  cover_out gone i = (
-    λ t. let (g, l, k, m, o) = (so_far i).0 t in (g, omega arith, k, m, o),
-    λ k.
-        let (g, l, k₁, m, o) = k in
-        ⊎_elim (λ e. absurd (gone (subst (λ (j : ℕ). T (has j)) e k₁) (subst (λ (j : ℕ). Inside j h) e m)))
-        (λ d. (so_far i).1 (g, omega arith, k₁, m, o)) (cases_eq g n),
-  )
+pub image_in : (f : ℕ → ℕ) (gs : List ℕ) (n : ℕ) (before after : ℕ → Bool) → ((h : ℕ) → T (before h) ↔ Image f gs h) → f n < sets → ((h : ℕ) → after h ≡ (before h || (eqb h (f n) && ltb (f n) sets))) → (h : ℕ) → T (after h) ↔ Image f (gs ++ n ∷ []) h
+image_in f gs n before after so_far low made h = (
+  λ t.
+      ⊎_elim (λ b. let (g, l, e) = (so_far h).0 b in (g, listed_before gs n g l, e)) (λ e. (n, listed_last gs n n refl, e))
+      (added_either before after (f n) low made h t),
+  λ k.
+      let (g, l, e) = k in
+      ⊎_elim (λ m. added_old before after (f n) low made h ((so_far h).1 (g, m, e)))
+      (λ same. added_new before after (f n) low made h (e ∙ ap f same)) (listed_one_more gs n g l),
+)
 
 -- h is inside where its union with g is h itself
 pub or_inside : (g h : ℕ) → bit_or g h ≡ h → Inside g h
@@ -83,60 +103,44 @@ inside_or g h inner =
 
 -- ---- a set is a union of some just where it is the union of all that lie within it
 
-module _ (has : ℕ → Bool) (low : (g : ℕ) → T (has g) → g < sets) (h all : ℕ)
-    (covers : (i : ℕ) → T (bit all i) ↔ ((g : ℕ) × T (has g) × Inside g h × T (bit g i))) where
-  inner : ℕ → Bool
-  inner g = has g && eqb (bit_or g h) h
+filtered_in : (t : ℕ → Bool) (gs : List ℕ) (g : ℕ) → Listed g (filter t gs) → Listed g gs × T (t g)
+filtered_in t [] g l = elim l [ ]
+filtered_in t (k ∷ gs) g l = step (t k) refl (filtered_in t gs g) l
+  where
+    step : (b : Bool) → t k ≡ b → (Listed g (filter t gs) → Listed g gs × T (t g)) → Listed g (cond b (k ∷ filter t gs) (filter t gs)) → Listed g (k ∷ gs) × T (t g)
+    step true e rest (inl here) = (inl here, rw (here, e) tt)
+    step true e rest (inr m) = let (l, p) = rest m in (inr l, p)
+    step false e rest m = let (l, p) = rest m in (inr l, p)
 
-  pub whole_selection : all ≡ h → Selection (λ g. T (has g)) h
-  unfolding inner
-  whole_selection e = record {
-    sets = members sets inner;
-    each = λ g l. (and_split (has g) (eqb (bit_or g h) h) (member_passes sets inner g l).1).0;
-    whole =
-        same_bits (together (members sets inner)) h
-        (λ i t.
-        let (g, l, b) = together_one (members sets inner) i t in
-        or_inside g h (eqb→eq (bit_or g h) h (and_split (has g) (eqb (bit_or g h) h) (member_passes sets inner g l).1).1) i b)
-        (λ i t.
-        let (g, k, m, b) = (covers i).0 (subst (λ (j : ℕ). T (bit j i)) (sym e) t) in
-        one_together (members sets inner) g i
-        (passes_member sets inner g (low g k)
-        (and_pair (has g) (eqb (bit_or g h) h) k (subst (λ (j : ℕ). T (eqb j h)) (sym (inside_or g h m)) (eqb_refl h))))
-        b);
-  }
+in_filtered : (t : ℕ → Bool) (gs : List ℕ) (g : ℕ) → Listed g gs → T (t g) → Listed g (filter t gs)
+in_filtered t [] g l p = elim l [ ]
+in_filtered t (k ∷ gs) g l p = step (t k) refl (in_filtered t gs g) l
+  where
+    step : (b : Bool) → t k ≡ b → (Listed g gs → T (t g) → Listed g (filter t gs)) → Listed g (k ∷ gs) → Listed g (cond b (k ∷ filter t gs) (filter t gs))
+    step true e rest (inl here) = inl here
+    step true e rest (inr m) = inr (rest m p)
+    step false e rest (inl here) = let p' : T (t k) = subst (λ (j : ℕ). T (t j)) here p in absurd (subst T e p')
+    step false e rest (inr m) = rest m p
 
-  pub selection_whole : Selection (λ g. T (has g)) h → all ≡ h
+module _ (f : Family) (h : ℕ) where
+  abbrev inner : List ℕ
+  inner = filter (λ g. eqb (bit_or g h) h) (sets_of f)
+
+  pub whole_selection : inner_union f h ≡ h → Selection (λ g. T (holds f g)) h
+  whole_selection e = record { sets = inner; each = λ g l. (sets_all f g).0 (filtered_in _ (sets_of f) g l).0; whole = sym (fold_together inner) ∙ e }
+
+  pub selection_whole : Selection (λ g. T (holds f g)) h → inner_union f h ≡ h
   selection_whole s =
-      same_bits all h (λ i t. let (g, k, m, b) = (covers i).0 t in m i b)
+      fold_together inner
+      ∙ same_bits (together inner) h
+      (λ i t.
+      let (g, l, b) = together_one inner i t in
+      or_inside g h (eqb→eq (bit_or g h) h (filtered_in _ (sets_of f) g l).1) i b)
       (λ i t.
       let (g, l, b) = together_one s.sets i (subst (λ (j : ℕ). T (bit j i)) (sym s.whole) t) in
-      (covers i).1 (g, s.each g l, λ j o. subst (λ (k : ℕ). T (bit k j)) s.whole (one_together s.sets g j l o), b))
-
--- ---- the unions below n
-
-module _ (P : ℕ → Type 0) (before : ℕ → Bool) (n : ℕ) (so_far : (h : ℕ) → T (before h) ↔ (P h × (h < n))) where
-  pub collect_in : (after : ℕ → Bool) → n < sets → P n → ((h : ℕ) → after h ≡ (before h || (eqb h n && ltb n sets))) → (h : ℕ) → T (after h) ↔ (P h × (h < n + 1))
-  collect_in after low here made h = (
-    λ t.
-        ⊎_elim (λ b. let k = (so_far h).0 b in (k.0, let l = k.1 in omega arith))
-        (λ e. let same = eqb→eq h n (and_split (eqb h n) (ltb n sets) e).0 in (subst P (sym same) here, omega arith))
-        (or_split (before h) (eqb h n && ltb n sets) (subst T (made h) t)),
-    λ k.
-        let l = k.1 in
-        subst T (sym (made h))
-        (⊎_elim
-        (λ e.
-        or_right (before h) (eqb h n && ltb n sets)
-        (and_pair (eqb h n) (ltb n sets) (subst (λ (j : ℕ). T (eqb h j)) e (eqb_refl h)) (lt→ltb n sets low)))
-        (λ d. or_left (before h) (eqb h n && ltb n sets) ((so_far h).1 (k.0, omega arith))) (cases_eq h n)),
-  )
-
-  pub collect_out : (P n → ⊥) → (h : ℕ) → T (before h) ↔ (P h × (h < n + 1))
-  collect_out gone h = (
-    λ t. let k = (so_far h).0 t in (k.0, let l = k.1 in omega arith),
-    λ k. let l = k.1 in ⊎_elim (λ e. absurd (gone (subst P e k.0))) (λ d. (so_far h).1 (k.0, omega arith)) (cases_eq h n),
-  )
+      let part : bit_or g h ≡ h = inside_or g h (λ j o. subst (λ (k : ℕ). T (bit k j)) s.whole (one_together s.sets g j l o)) in
+      one_together inner g i
+      (in_filtered _ (sets_of f) g ((sets_all f g).1 (s.each g l)) (subst (λ (j : ℕ). T (eqb j h)) (sym part) (eqb_refl h))) b)
 
 -- ---- the cut at the places so far
 

@@ -1,13 +1,13 @@
 -- Unions of sets, selections of them, and the sets below a bound that pass a test, as a list. Assumes nothing.
-use Rattle.std.proofs.Common.{◌≡◌, ℕ, zero, suc, ◌^◌, ◌<◌, Bool, true, false, cond, T, ◌↔◌, List, [], ◌∷◌, sym, refl, subst, inl, inr, ⊎_elim, arith, pow_pos}
-use lib.Bits.{or_lt}
+use Rattle.std.proofs.Common.{◌≡◌, ℕ, zero, suc, ◌^◌, ◌<◌, Bool, true, false, cond, T, List, [], ◌∷◌, sym, refl, ◌∙◌, subst, inl, inr, ⊎_elim, arith, pow_pos}
+use lib.Bits.{bit_or, or_lt, or_zero_l, or_zero_r}
+use Rattle.std.specs.List.{fold}
 use Rattle.std.proofs.lemmas.Bool.{cases_eq}
 use Rattle.domain.specs.Variables.{Listed}
-use Rattle.families.specs.Masks.{bit, meets}
+use Rattle.families.specs.Masks.{bit}
 use Rattle.families.specs.Unions.{together, Selection, One}
 use Rattle.domain.proofs.Booleans.{or_split, or_left, or_right}
-use Rattle.families.proofs.Tests.{meets_some, some_meets}
-use Rattle.families.proofs.Masks.{zero_bits, bit_of_or}
+use Rattle.families.proofs.Masks.{zero_bits, bit_of_or, or_assoc}
 
 -- ---- the variables of a union
 
@@ -26,26 +26,13 @@ pub together_below : (gs : List ℕ) (n : ℕ) → ((g : ℕ) → Listed g gs �
 together_below [] n f = pow_pos n
 together_below (g ∷ gs) n f = or_lt n g (together gs) (f g (inl refl)) (together_below gs n (λ k l. f k (inr l)))
 
--- ---- what the sets of a selection have together, one of them has
+-- one after the other
+folded : (gs : List ℕ) (all : ℕ) → fold bit_or all gs ≡ bit_or all (together gs)
+folded [] all = sym (or_zero_r all)
+folded (g ∷ gs) all = folded gs (bit_or all g) ∙ or_assoc all g (together gs)
 
-module _ {P : ℕ → Type 0} (h : ℕ) (s : Selection P h) where
-  pub selected_bit : (i : ℕ) → One (λ g. bit g i) s.sets ↔ T (bit h i)
-  selected_bit i = (
-    λ k. let (g, l, t) = k in subst (λ (j : ℕ). T (bit j i)) s.whole (one_together s.sets g i l t),
-    λ t. together_one s.sets i (subst (λ (j : ℕ). T (bit j i)) (sym s.whole) t),
-  )
-
-  pub selected_meets : (ys : List ℕ) → One (meets ys) s.sets ↔ T (meets ys h)
-  selected_meets ys = (
-    λ k.
-        let (g, l, t) = k in
-        let (y, m, b) = meets_some ys g t in
-        some_meets ys h y m ((selected_bit y).0 (g, l, b)),
-    λ t.
-        let (y, m, b) = meets_some ys h t in
-        let (g, l, c) = (selected_bit y).1 b in
-        (g, l, some_meets ys g y m c),
-  )
+pub fold_together : (gs : List ℕ) → fold bit_or 0 gs ≡ together gs
+fold_together gs = folded gs 0 ∙ or_zero_l (together gs)
 
 -- ---- the numbers below n that pass
 

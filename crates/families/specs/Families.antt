@@ -1,7 +1,9 @@
 -- What the functions on families give: which sets, each by its mask.
-use Rattle.std.specs.Prelude.{◌≡◌, ℕ, ◌<◌, Bool, false, ◌&&◌, ◌||◌, T, ◌↔◌, List, ◌==◌, nat_lt}
-use Rattle.families.specs.Masks.{bit, cut}
-use Rattle.families.specs.Unions.{Selection, Inside}
+use Rattle.std.specs.Prelude.{◌≡◌, ℕ, ◌<◌, Bool, false, ◌&&◌, ◌||◌, T, ◌↔◌, List, ◌==◌, bit_or, nat_lt}
+use Rattle.std.specs.List.{fold, filter}
+use Rattle.families.specs.Masks.{cut}
+use Rattle.families.specs.Members.{sets_of}
+use Rattle.families.specs.Unions.{Selection}
 use Rattle.families.specs.Words.{holds, sets}
 use Rattle.families.specs.declared.family.Family.{Family}
 
@@ -42,5 +44,5 @@ abbrev pub AllUnions : Family → Family → Type 0
 AllUnions f r = (h : ℕ) → T (holds r h) ↔ (Selection (λ g. T (holds f g)) h × (h < sets))
 
 -- the union of the sets of f that lie within h
-abbrev pub UnionWithin : Family → ℕ → ℕ → Type 0
-UnionWithin f h r = (i : ℕ) → T (bit r i) ↔ ((g : ℕ) × T (holds f g) × Inside g h × T (bit g i))
+abbrev pub inner_union : Family → ℕ → ℕ
+inner_union f h = fold bit_or 0 (filter (λ g. bit_or g h == h) (sets_of f))

@@ -2,7 +2,7 @@
 ghost use Rattle.std.specs.Prelude.{◌≡◌, ℕ, Bool, T, take, ◌<◌, ◌==◌, bit_or, slice_index, ◌^◌};
 ghost use Rattle.std.specs.List.{list_all, zip};
 ghost use Rattle.domain.specs.Variables.{widest};
-ghost use Rattle.families.specs.Families.{Nothing, Everything, Added, Either, Included, Passing, Cuts, AllUnions, UnionWithin};
+ghost use Rattle.families.specs.Families.{Nothing, Everything, Added, Either, Included, Passing, Cuts, AllUnions, inner_union};
 ghost use Rattle.families.specs.Masks.{count as counted};
 ghost use Rattle.families.specs.Words.{holds, sets, word_count};
 
@@ -16,6 +16,7 @@ pub const SETS: usize = 1 << WIDEST;
 
 const WORDS: usize = SETS / 64;
 
+// A fixed table, since values lie in lent rows and nothing here allocates.
 #[derive(Clone, Copy)]
 pub struct Family {
     words: [u64; WORDS],
@@ -96,8 +97,8 @@ impl Family {
         ensures { Passing self.now (F.post passes) result }
     {
         let mut passing = Family::new();
-        for g in 0..SETS {
-            if self.has(g) && passes(g) {
+        for g in self {
+            if passes(g) {
                 passing.insert(g);
             }
         }
@@ -109,38 +110,27 @@ impl Family {
         ensures { Cuts self.now (take widest xs.now) result }
     {
         let mut cuts = Family::new();
-        for g in 0..SETS {
-            if self.has(g) {
-                cuts.insert(mask::cut(g, xs));
-            }
+        for g in self {
+            cuts.insert(mask::cut(g, xs));
         }
         cuts
     }
 
     // The unions of any selection of the sets; that of none is the empty set.
+    #[tactic(auto, using(crate::proofs::Loops::whole_selection, crate::proofs::Loops::selection_whole))]
     pub fn unions(&self) -> Family
         ensures { AllUnions self.now result }
     {
-        let mut made = Family::new();
-        for h in 0..SETS {
-            if self.union_within(h) == h {
-                made.insert(h);
-            }
-        }
-        made
+        Family::all().filtered(|h| self.union_within(h) == h)
     }
 
     // The union of the sets that lie within h: h itself, just where h is a union of some of them.
     fn union_within(&self, h: Mask) -> Mask
-        ensures { UnionWithin self.now h result }
+        ensures { result ≡ inner_union self.now h }
     {
-        let mut all = mask::EMPTY;
-        for g in 0..SETS {
-            if self.has(g) && g | h == h {
-                all |= g;
-            }
-        }
-        all
+        self.iter()
+            .filter(|g| *g | h == h)
+            .fold(mask::EMPTY, |all, g| all | g)
     }
 }
 

@@ -4,10 +4,12 @@
 
 mod family;
 mod filters;
+mod iter;
 mod listing;
 pub mod mask;
 mod show;
 
 pub use family::{Family, SETS};
+pub use iter::Sets;
 pub use listing::Listing;
 pub use mask::Mask;

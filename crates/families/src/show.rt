@@ -1,25 +1,22 @@
 // Families in print: {e,0,12} has the empty set, that of variable 0 alone, and that of variables 1 and 2.
-use super::family::{Family, SETS};
+use super::family::Family;
 use super::mask;
 use super::mask::Mask;
 use domain::WIDEST;
 use std::fmt;
 
 impl fmt::Display for Family {
+    #[tactic(auto, using(crate::proofs::Members::sets_few))]
     fn fmt<W: fmt::Write>(&self, f: &mut fmt::Formatter<W>) -> fmt::Result {
         if self.is_empty() {
             return f.write_str("never");
         }
         f.write_str("{")?;
-        let mut first = true;
-        for g in 0..SETS {
-            if self.has(g) {
-                if !first {
-                    f.write_str(",")?;
-                }
-                first = false;
-                show_set(g, f)?;
+        for (k, g) in self.iter().enumerate() {
+            if k > 0 {
+                f.write_str(",")?;
             }
+            show_set(g, f)?;
         }
         f.write_str("}")
     }

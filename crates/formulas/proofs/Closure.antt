@@ -3,7 +3,7 @@ use Rattle.std.proofs.Common.{◌≡◌, ℕ, ◌%◌, ◌^◌, ◌<◌, ◌≤�
 use lib.Pow.{ones_lt}
 use Rattle.domain.specs.Variables.{Below}
 use Rattle.families.specs.Masks.{whole, cut}
-use Rattle.rows.specs.declared.row.Core.TheVariants.{Full}
+use Rattle.rows.specs.Cores.{Full}
 use Rattle.rows.specs.Rows.{Cored}
 use Rattle.rows.specs.Values.{Value, Fits}
 use Rattle.formulas.specs.Formulas.{tied, entered, backed}

@@ -1,29 +1,53 @@
--- What the parts of the functions make of the models. Assumes nothing.
-use Rattle.std.proofs.Common.{◌≡◌, ℕ, ◌^◌, ◌<◌, ◌≤◌, Bool, ◌&&◌, eqb, ltb, List, sym, ap, ◌∙◌, ap₂, arith, pow_mono}
-use lib.Bits.{bit_and, bit_or}
+-- What the parts of the functions take of the models. Assumes nothing.
+use Rattle.std.proofs.Common.{◌≡◌, ℕ, ◌^◌, ◌<◌, ◌≤◌, Bool, false, not, ◌&&◌, T, ltb, ◌⊎◌, ◌↔◌, sym, ◌∙◌, subst, inl, inr, ⊎_elim, arith, pow_mono, T_not}
+use lib.Bits.{bit_or}
+use lib.Dec.{not_T}
 use Rattle.std.proofs.lemmas.Bool.{lt-ltb}
-use Rattle.domain.specs.Variables.{Below, widest}
-use Rattle.families.specs.Masks.{bit, cut, whole, coded}
+use Rattle.domain.specs.Variables.{widest}
+use Rattle.domain.proofs.Booleans.{and_split, and_pair, same_test, tested}
+use Rattle.families.specs.Masks.{bit, overlaps, alone}
 use Rattle.families.specs.Words.{sets}
-use Rattle.families.proofs.Overlaps.{covers_coded}
-use Rattle.families.proofs.Ranges.{and_whole}
+use Rattle.families.proofs.Overlaps.{overlaps_or, overlaps_alone}
+use Rattle.rows.specs.Cores.{Full}
+use Rattle.rows.specs.declared.row.Row.{Row}
 use Rattle.rows.specs.Values.{Value}
-use Rattle.formulas.specs.Formulas.{alike, tied_has, entered_has, backed_has}
+use Rattle.rows.proofs.Readings.{read_narrow, read_fits}
+use Rattle.formulas.specs.Formulas.{read_row}
 
-module _ (a : Value) (models : ℕ → Bool) (models_is : (g : ℕ) → models g ≡ a.has g) (made : ℕ → Bool) where
-  pub tied_is : (x : ℕ) (ys : List ℕ) → Below widest ys → ((g : ℕ) → made g ≡ (models g && alike (bit g x) (eqb (bit_or (coded ys) g) g))) →
-      (g : ℕ) → made g ≡ tied_has a x ys g
-  tied_is x ys below made_is g =
-      made_is g ∙ ap₂ (λ (b c : Bool). b && alike (bit g x) c) (models_is g) (covers_coded ys below g)
+-- ---- the sets below a width are among all sets
 
-  -- below 2 ^ v, which is no more than all sets
-  pub entered_is : (v : ℕ) → v ≤ widest → ((g : ℕ) → made g ≡ (ltb g sets && models (bit_and g (whole a.width)))) →
-      (g : ℕ) → g < 2 ^ v → made g ≡ entered_has a v g
-  entered_is v narrow made_is g low =
-      let room : 2 ^ v ≤ sets = pow_mono narrow in
-      let all : ltb g sets ≡ ltb g (2 ^ v) = lt-ltb g sets (omega arith) ∙ sym (lt-ltb g (2 ^ v) low) in
-      made_is g ∙ ap₂ (λ (b c : Bool). b && c) all (models_is (bit_and g (whole a.width)) ∙ ap a.has (and_whole a.width g))
+pub all_below : (n : ℕ) → n ≤ widest → (g : ℕ) → g < 2 ^ n → ltb g sets ≡ ltb g (2 ^ n)
+all_below n narrow g low =
+    let room : 2 ^ n ≤ sets = pow_mono narrow in
+    lt-ltb g sets (omega arith) ∙ sym (lt-ltb g (2 ^ n) low)
 
-  pub backed_is : (args : List ℕ) (b : Value) (ends : ℕ → Bool) → ((g : ℕ) → ends g ≡ b.has g) → ((g : ℕ) → made g ≡ (models g && ends (cut args g))) →
-      (g : ℕ) → made g ≡ backed_has a args b g
-  backed_is args b ends ends_is made_is g = made_is g ∙ ap₂ (λ (c d : Bool). c && d) (models_is g) (ends_is (cut args g))
+pub read_low : {K : Type 0} (r : Row K) (g : ℕ) → T ((read_row r).has g) → g < sets
+read_low r g held =
+    let low = read_fits Full r g held in
+    let room : 2 ^ (read_row r).width ≤ sets = pow_mono (read_narrow r) in
+    omega arith
+
+-- ---- the verdicts: no model is left that misses the mask, just where each model has what a mask that it meets says
+
+pub overlaps_one : (g x y : ℕ) → g < sets → T (overlaps g (bit_or (alone x) (alone y))) ↔ (T (bit g x) ⊎ T (bit g y))
+overlaps_one g x y low =
+    let has_x = overlaps_alone g low x in
+    let has_y = overlaps_alone g low y in
+    let either = overlaps_or g (alone x) (alone y) in (
+      λ t. ⊎_elim (λ l. inl (has_x.0 l)) (λ r. inr (has_y.0 r)) (either.0 t),
+      λ s. either.1 (⊎_elim (λ l. inl (has_x.1 l)) (λ r. inr (has_y.1 r)) s),
+    )
+
+pub none_left : (a : Value) (Says : ℕ → Type 0) (mask : ℕ) {left : ℕ → Bool} → ((g : ℕ) → left g ≡ (a.has g && not (overlaps g mask))) →
+    ((g : ℕ) → T (a.has g) → T (overlaps g mask) ↔ Says g) → ((g : ℕ) → left g ≡ false) ↔ ((g : ℕ) → T (a.has g) → Says g)
+none_left a Says mask {left} is meets = (
+  λ none g held.
+      ⊎_elim (meets g held).0
+      (λ misses. absurd (subst T (sym (is g) ∙ none g) (and_pair (a.has g) (not (overlaps g mask)) held (not_T (overlaps g mask) misses))))
+      (tested (overlaps g mask)),
+  λ each g.
+      same_test (left g) false
+      (λ t.
+      let (held, misses) = and_split (a.has g) (not (overlaps g mask)) (subst T (is g) t) in
+      T_not (overlaps g mask) misses ((meets g held).1 (each g held))) (λ t. absurd t),
+)

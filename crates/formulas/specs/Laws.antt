@@ -9,10 +9,10 @@ use Rattle.std.specs.Prelude.{refl}
 use Rattle.std.proofs.Common.{◌∙◌}
 use Rattle.domain.specs.Model.{Lawful, Exact}
 use Rattle.domain.specs.Term.Term.{var}
-use Rattle.rows.specs.declared.row.Core.TheVariants.{Full}
+use Rattle.rows.specs.Cores.{Full}
 use Rattle.formulas.specs.Formulas.{formulas, read}
 use Rattle.rows.proofs.Values.{under_refl, under_trans, under_antisym, never_least, join_left, join_right, join_least, view_grows, rank_bound, rank_rises}
-use Rattle.rows.proofs.Reading.{read_narrow, read_fits, read_cored}
+use Rattle.rows.proofs.Readings.{read_narrow, read_fits, read_cored}
 use Rattle.formulas.specs.Laws.Outcomes.{tie_describes, view_describes, enter_describes, back_describes}
 use Rattle.formulas.specs.Laws.Growth.{tie_grows, enter_grows, back_grows}
 use Rattle.formulas.specs.Laws.Exactness.{ground_holds, apart_holds, ground_exact, apart_exact}

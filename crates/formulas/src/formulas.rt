@@ -2,7 +2,7 @@
 ghost use Rattle.std.specs.Prelude.{◌≡◌, min, max, T, take, ◌≢◌};
 ghost use Rattle.domain.specs.Model.{Sides, AlwaysGround, AlwaysApart};
 ghost use Rattle.domain.specs.Variables.{widest};
-ghost use Rattle.rows.specs.declared.row.Core.TheVariants.{Full};
+ghost use Rattle.rows.specs.Cores.{Full as full};
 ghost use Rattle.rows.specs.Rows.{ViewReads, ViewFollows};
 ghost use Rattle.rows.specs.Values.{Under, never as none, joined, rank as size};
 ghost use Rattle.formulas.specs.Formulas.{formulas as the_model, read, entered};
@@ -12,8 +12,9 @@ ghost use Rattle.formulas.specs.Laws;
 ghost use Rattle.std.proofs.Common.{rules};
 
 use super::models::Models;
+use super::parts;
 use domain::{Domain, Exact, WIDEST};
-use rows::{Core, Row};
+use rows::Row;
 
 impl Domain for Models {
     ghost model = { the_model };
@@ -22,6 +23,7 @@ impl Domain for Models {
 
     ghost narrow = { Prim.search rules };
 
+    // Width, never, below, join and rank are one call each of the row's, which has the code for all domains of rows.
     fn width(&self) -> u8
         ensures { result ≡ (read self.now).width }
     {
@@ -32,16 +34,14 @@ impl Domain for Models {
     fn never(n: u8) -> Models
         ensures { read result ≡ none (min n widest) }
     {
-        Models {
-            row: Row::never(n, Core::Full),
-        }
+        Models { row: Row::never(n) }
     }
 
     fn below(&self, other: &Models) -> bool
         ensures yes { T result → Under (read self.now) (read other.now) }
         ensures only { Under (read self.now) (read other.now) → T result }
     {
-        self.row.below(&other.row, Core::Full)
+        self.row.below(&other.row)
     }
 
     // A value of another width adds nothing.
@@ -50,7 +50,7 @@ impl Domain for Models {
         ensures differ { ((read self.now).width ≢ (read other.now).width) → result ≡ self.now }
     {
         Models {
-            row: self.row.join(&other.row, Core::Full),
+            row: self.row.join(&other.row),
         }
     }
 
@@ -60,16 +60,23 @@ impl Domain for Models {
         ensures rule { TieFollows (read self.now) x ys.now (read result) }
         ensures past { (Sides the_model (read self.now) x ys.now → ⊥) → result ≡ self.now }
     {
-        self.tied(&self.models(), x, ys)
+        Models {
+            row: parts::tied(&self.row, x, ys),
+        }
     }
 
     // Of more variables than the largest width, the first count; where one is past the width, nothing is known.
     fn view(&self, xs: &[u8]) -> Models
-        ensures reads { ViewReads Full (read self.now) (take widest xs.now) (read result) }
-        ensures rule { ViewFollows Full (read self.now) (take widest xs.now) (read result) }
+        ensures reads { ViewReads full (read self.now) (take widest xs.now) (read result) }
+        ensures rule { ViewFollows full (read self.now) (take widest xs.now) (read result) }
         ensures past { ViewPast (read self.now) (take widest xs.now) (read result) }
     {
-        self.viewed(self.row.view(xs, Core::Full), xs)
+        let row = if parts::has_all(&self.row, xs) {
+            self.row.view(xs)
+        } else {
+            parts::unknown_at(xs)
+        };
+        Models { row }
     }
 
     // A width below the value's own leaves it as it is, and one past the largest gives the largest.
@@ -77,7 +84,9 @@ impl Domain for Models {
         ensures reads { read result ≡ entered (read self.now) (max (read self.now).width (min v widest)) }
         ensures rule { EnterRule (read self.now) (max (read self.now).width (min v widest)) (read result) }
     {
-        self.entered(&self.models(), self.width().max(v.min(WIDEST)))
+        Models {
+            row: parts::entered(&self.row, self.width().max(v.min(WIDEST))),
+        }
     }
 
     // Of more arguments than the largest width, the first count; where one is past the width, or `end` has another number
@@ -87,7 +96,9 @@ impl Domain for Models {
         ensures rule { BackFollows (read self.now) (take widest args.now) (read end.now) (read result) }
         ensures past { (Matches (read self.now) (take widest args.now) (read end.now) → ⊥) → result ≡ self.now }
     {
-        self.backed(&self.models(), args, end, &end.models())
+        Models {
+            row: parts::backed(&self.row, args, &end.row),
+        }
     }
 
     // Past the width a list has no variable.
@@ -96,7 +107,7 @@ impl Domain for Models {
         ensures always { T result → AlwaysGround the_model (read self.now) x }
         ensures exact { AlwaysGround the_model (read self.now) x → T result }
     {
-        self.all_have(&self.models(), x)
+        x >= self.width() || parts::all_have(&self.row, x)
     }
 
     fn apart(&self, x: u8, y: u8) -> bool
@@ -104,14 +115,14 @@ impl Domain for Models {
         ensures always { T result → AlwaysApart the_model (read self.now) x y }
         ensures exact { AlwaysApart the_model (read self.now) x y → T result }
     {
-        self.all_have_one(&self.models(), x, y)
+        x.max(y) >= self.width() || parts::all_have_one(&self.row, x, y)
     }
 
     // How many models there are.
     fn rank(&self) -> u16
         ensures { result ≡ size (read self.now) }
     {
-        self.row.rank(Core::Full)
+        self.row.rank()
     }
 }
 

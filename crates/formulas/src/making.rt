@@ -1,21 +1,28 @@
 // Values made of what a caller lists.
-ghost use Rattle.rows.specs.Make.{Makes};
-ghost use Rattle.rows.specs.declared.row.Core.TheVariants.{Full};
+ghost use Rattle.rows.specs.Cores.{Full as full};
+ghost use Rattle.rows.specs.Make.{Makes, MakesValue};
 ghost use Rattle.formulas.specs.Formulas.{read};
 
 use super::models::Models;
 use domain::Refusal;
 use families::Listing;
-use rows::{Core, Row};
+use rows::Row;
 
 impl Models {
-    // Writes never, or the value of the models listed with that of all variables, to the place. It refuses a width past
-    // the largest, then a listed variable that is not below the width, and leaves the place as it was then.
-    pub fn make(width: u8, models: Listing, place: &mut Models) -> Result<(), Refusal>
-        ensures { Makes Full read width models.entry place.old result place.new }
+    // Never, or the value of the models listed with that of all variables. It refuses a width past the largest, then a listed variable
+    // that is not below the width.
+    pub fn listed(width: u8, models: Listing) -> Result<Models, Refusal>
+        ensures { MakesValue full read width models.entry result }
     {
-        let row = Row::listed(width, models, Core::Full)?;
-        *place = Models { row };
+        let row = Row::listed(width, models)?;
+        Ok(Models { row })
+    }
+
+    // Writes it to a place of the caller's, as the rules have it: where it is refused the place is left as it was.
+    pub fn make(width: u8, models: Listing, place: &mut Models) -> Result<(), Refusal>
+        ensures { Makes full read width models.entry place.old result place.new }
+    {
+        *place = Models::listed(width, models)?;
         Ok(())
     }
 }

@@ -4,7 +4,7 @@ use std::fmt;
 
 impl fmt::Display for Models {
     fn fmt<W: fmt::Write>(&self, f: &mut fmt::Formatter<W>) -> fmt::Result {
-        let models = self.models();
+        let models = self.row.sets();
         write!(f, "{models}")
     }
 }

@@ -1,4 +1,4 @@
 pub mod Values
-pub mod Cores
-pub mod Reading
+pub mod Cored
+pub mod Readings
 pub mod Made

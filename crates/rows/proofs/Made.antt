@@ -6,12 +6,12 @@ use Rattle.families.specs.declared.family.Family.{Family}
 use Rattle.families.specs.Listings.{Listing, Within, Codes, InBounds, Meant}
 use Rattle.families.specs.Words.{holds, sets}
 use Rattle.families.proofs.Masks.{bits_below}
-use Rattle.rows.specs.declared.row.Core.{Core}
+use Rattle.rows.specs.Cores.{Core, core}
 use Rattle.rows.specs.declared.row.Row.{Row}
-use Rattle.rows.specs.Rows.{core, read}
+use Rattle.rows.specs.Rows.{read, read_width}
 use Rattle.rows.specs.Values.{Gives}
-use Rattle.rows.proofs.Cores.{core_low}
-use Rattle.rows.proofs.Reading.{read_held, read_from}
+use Rattle.rows.proofs.Cored.{core_low}
+use Rattle.rows.proofs.Readings.{read_held, read_from}
 
 -- a set that is listed within a bound
 codes_below : (n : ℕ) (xss : List (Bor (List ℕ))) (g : ℕ) → Within n xss → Codes xss g → g < 2 ^ n
@@ -31,29 +31,29 @@ meant_core : (k : ℕ) → k < sets → (l : Listing) (h : ℕ) → Meant k l h 
 meant_core k low None h m = m
 meant_core k low (Some xss) h m = inl (refl, low)
 
-pub gives_meant : (c : Core) (n : ℕ) → n ≤ widest → (l : Listing) → InBounds n l → (f : Family) → ((h : ℕ) → T (holds f h) ↔ Meant (core c (min n widest)) l h) →
-    Gives n (Meant (core c n) l) (read c (record { width = n; map = f }))
-gives_meant c n narrow l bounds f is = record {
+pub gives_meant : {K : Type 0} (c : Core) (r : Row K) (n : ℕ) (f : Family) → (r.width ≡ n) × (r.map ≡ f) → n ≤ widest → (l : Listing) → InBounds n l →
+    ((h : ℕ) → T (holds f h) ↔ Meant (core c (min n widest)) l h) → Gives n (Meant (core c n) l) (read c r)
+gives_meant c r n f of narrow l bounds is = record {
   width = wide;
   sets = λ h. (
-    λ t. (meant h).0 (read_held c row h t),
+    λ t. (meant h).0 (read_held c r h t),
     λ k.
-        read_from c row h (
+        read_from c r h (
           subst (λ (m : ℕ). h < 2 ^ m) (sym wide) (meant_below c n l h bounds k),
-          subst (λ (m : ℕ). T (holds f (core c m))) (sym wide) ((meant (core c n)).1 (meant_core (core c n) low l h k)),
+          subst (λ (m : ℕ). T (holds r.map (core c m))) (sym wide) ((meant (core c n)).1 (meant_core (core c n) low l h k)),
           (meant h).1 k,
         ),
   );
 }
   where
-    row : Row
-    row = record { width = n; map = f }
+    wide : read_width r ≡ n
+    wide = let e = of.0 in omega arith
 
-    wide : min n widest ≡ n
-    wide = omega arith
+    here : (h : ℕ) → T (holds r.map h) ↔ Meant (core c (min n widest)) l h
+    here = subst (λ (f : Family). (h : ℕ) → T (holds f h) ↔ Meant (core c (min n widest)) l h) (sym of.1) is
 
-    meant : (h : ℕ) → T (holds f h) ↔ Meant (core c n) l h
-    meant = subst (λ (m : ℕ). (h : ℕ) → T (holds f h) ↔ Meant (core c m) l h) wide is
+    meant : (h : ℕ) → T (holds r.map h) ↔ Meant (core c n) l h
+    meant = let e : min n widest ≡ n = omega arith in subst (λ (m : ℕ). (h : ℕ) → T (holds r.map h) ↔ Meant (core c m) l h) e here
 
     low : core c n < sets
     low = let room : 2 ^ n ≤ sets = pow_mono narrow in let l = core_low c n in omega arith

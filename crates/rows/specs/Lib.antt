@@ -1,3 +1,4 @@
 pub mod Values
+pub mod Cores
 pub mod Rows
 pub mod Make

@@ -2,19 +2,12 @@
 use Rattle.std.specs.Prelude.{◌≡◌, ℕ, ◌^◌, min, Bool, ◌&&◌, T, List, length, nat_lt}
 use Rattle.domain.specs.Variables.{Below, widest}
 use Rattle.families.specs.declared.family.Family.{Family}
-use Rattle.families.specs.Masks.{whole}
 use Rattle.families.specs.Words.{holds}
-use Rattle.rows.specs.declared.row.Core.{Core}
-use Rattle.rows.specs.declared.row.Core.TheVariants.{Empty, Full}
+use Rattle.rows.specs.Cores.{Core, Empty, Full, core}
 use Rattle.rows.specs.declared.row.Row.{Row}
 use Rattle.rows.specs.Values.{Value, never, viewed, ViewRule}
 
 -- ---- the core
-
--- the core of the sets of variables below n: the one set that every lawful value has, if it has any
-abbrev pub core : Core → ℕ → ℕ
-core Empty n = 0
-core Full n = whole n
 
 -- the core is there if any set is
 abbrev pub Cored : Core → Value → Type 0
@@ -28,18 +21,18 @@ Keeps Full n xs = Below n xs
 -- ---- what is read off a row
 
 -- a width past the largest reads as the largest
-abbrev pub read_width : Row → ℕ
+abbrev pub read_width : {K : Type 0} → Row K → ℕ
 read_width r = min r.width widest
 
 -- a set past the width is not read, and none at all where the core is missing
-unfoldable pub read_has : Core → Row → ℕ → Bool
+unfoldable pub read_has : {K : Type 0} → Core → Row K → ℕ → Bool
 read_has c r g = nat_lt g (2 ^ read_width r) && (holds r.map (core c (read_width r)) && holds r.map g)
 
-abbrev pub read : Core → Row → Value
+abbrev pub read : {K : Type 0} → Core → Row K → Value
 read c r = record { width = read_width r; has = read_has c r }
 
 -- the family is what is read off the row
-abbrev pub Off : Core → Row → Family → Type 0
+abbrev pub Off : {K : Type 0} → Core → Row K → Family → Type 0
 Off c r f = (g : ℕ) → holds f g ≡ (read c r).has g
 
 -- ---- a view, where the core is kept, and where it is lost

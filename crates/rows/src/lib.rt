@@ -2,6 +2,10 @@
 // It knows nothing of terms, and nothing of what a value means.
 #![tactic(auto)]
 
+mod cores;
+mod reading;
 mod row;
 
-pub use row::{Core, Row};
+pub use cores::{Core, Empty, Full};
+pub use reading::Reading;
+pub use row::Row;

@@ -4,47 +4,44 @@ ghost use Rattle.std.specs.Prelude.{◌≡◌, ℕ, ◌≤◌, min, T, ◌↔◌
 ghost use Rattle.domain.specs.Variables.{widest};
 ghost use Rattle.families.specs.Listings.{InBounds, Meant};
 ghost use Rattle.families.specs.Words.{holds};
+ghost use Rattle.rows.specs.Cores.{core as the_core};
 ghost use Rattle.rows.specs.Make.{Meaning, MakesRow};
-ghost use Rattle.rows.specs.Rows.{core as the_core, read, read_width, Off, ViewReads, ViewFollows, ViewLost};
+ghost use Rattle.rows.specs.Rows.{read, read_width, Off, ViewReads, ViewFollows, ViewLost};
 ghost use Rattle.rows.specs.Values.{Under, never as none, joined, rank as size};
 
+use super::cores::Core;
+use super::reading::Reading;
 use domain::{Refusal, WIDEST};
-use families::{Family, Listing, Mask, mask};
-
-// The set that every lawful value of a domain has, if it has any: the empty one, or that of all variables.
-#[derive(Clone, Copy)]
-pub enum Core {
-    Empty,
-    Full,
-}
-
-impl Core {
-    // The core of the sets of variables below a width; one past the largest counts as the largest.
-    pub fn of(self, width: u8) -> Mask
-        ensures { result ≡ the_core self (min width widest) }
-    {
-        match self {
-            Core::Empty => mask::EMPTY,
-            Core::Full => mask::all(width),
-        }
-    }
-}
+use families::{Family, Listing, Mask};
+use std::marker::PhantomData;
 
 #[derive(Clone, Copy)]
-pub struct Row {
+pub struct Row<K: Core> {
     pub width: u8,
     pub map: Family,
+    core: PhantomData<K>,
 }
 
-impl Row {
+impl<K: Core> Row<K> {
+    // A width and a bit for each set, as they are.
+    pub fn new(width: u8, map: Family) -> Row<K>
+        ensures { (result.width ≡ width) × (result.map ≡ map) }
+    {
+        Row {
+            width,
+            map,
+            core: PhantomData,
+        }
+    }
+
     // The row of the sets listed with the core, or of none for never. It refuses a width past the largest, then a listed
     // variable that is not below the width.
-    pub fn listed(width: u8, sets: Listing, core: Core) -> Result<Row, Refusal>
-        ensures { MakesRow core width sets.entry result }
+    pub fn listed(width: u8, sets: Listing) -> Result<Row<K>, Refusal>
+        ensures { MakesRow K.core width sets.entry result }
     {
-        let first = core.of(width);
+        let first = K::of(width);
         let map = Family::listed(width, sets, first)?;
-        Ok(made(width, sets, core, first, map))
+        Ok(Row::made(width, sets, first, map))
     }
 
     // A width past the largest reads as the largest.
@@ -54,60 +51,70 @@ impl Row {
         self.width.min(WIDEST)
     }
 
-    // The sets that are read off the words: none past the width, and none at all where the core is missing.
-    pub fn sets(&self, core: Core) -> Family
-        ensures { Off core self.now result }
+    // What is read off the words.
+    pub fn read(&self) -> Reading<'_, K>
+        ensures { result.row.now ≡ self.now }
     {
-        self.narrowed(core, core.of(self.width))
+        Reading {
+            row: self,
+            sets: self.sets(),
+        }
+    }
+
+    // The sets that are read off the words: none past the width, and none at all where the core is missing.
+    pub fn sets(&self) -> Family
+        ensures { Off K.core self.now result }
+    {
+        self.narrowed(K::of(self.width))
     }
 
     // The row without sets.
-    pub fn never(width: u8, core: Core) -> Row
-        ensures { read core result ≡ none (min width widest) }
+    pub fn never(width: u8) -> Row<K>
+        ensures { read K.core result ≡ none (min width widest) }
     {
-        empty(width.min(WIDEST), core)
+        Row::empty(width.min(WIDEST))
     }
 
     // Whether each set read here is read there, at one width.
-    pub fn below(&self, other: &Row, core: Core) -> bool
-        ensures yes { T result → Under (read core self.now) (read core other.now) }
-        ensures only { Under (read core self.now) (read core other.now) → T result }
+    pub fn below(&self, other: &Row<K>) -> bool
+        ensures yes { T result → Under (read K.core self.now) (read K.core other.now) }
+        ensures only { Under (read K.core self.now) (read K.core other.now) → T result }
     {
-        self.width() == other.width() && self.sets(core).within(&other.sets(core))
+        self.width() == other.width() && self.sets().within(&other.sets())
     }
 
     // The sets of both; a row of another width adds nothing.
-    pub fn join(&self, other: &Row, core: Core) -> Row
-        ensures same { read_width self.now ≡ read_width other.now → read core result ≡ joined (read core self.now) (read core other.now) }
+    pub fn join(&self, other: &Row<K>) -> Row<K>
+        ensures same { read_width self.now ≡ read_width other.now → read K.core result ≡ joined (read K.core self.now) (read K.core other.now) }
         ensures differ { (read_width self.now ≢ read_width other.now) → result ≡ self.now }
     {
         if self.width() == other.width() {
-            self.united(other, core)
+            self.united(other)
         } else {
             *self
         }
     }
 
     // Each set cut down to the first variables listed, as many as the largest width; never, where no cut is a core.
-    pub fn view(&self, xs: &[u8], core: Core) -> Row
-        ensures reads { ViewReads core (read core self.now) (take widest xs.now) (read core result) }
-        ensures rule { ViewFollows core (read core self.now) (take widest xs.now) (read core result) }
-        ensures lost { ViewLost core (read core self.now) (take widest xs.now) (read core result) }
+    pub fn view(&self, xs: &[u8]) -> Row<K>
+        ensures reads { ViewReads K.core (read K.core self.now) (take widest xs.now) (read K.core result) }
+        ensures rule { ViewFollows K.core (read K.core self.now) (take widest xs.now) (read K.core result) }
+        ensures lost { ViewLost K.core (read K.core self.now) (take widest xs.now) (read K.core result) }
     {
-        self.viewed(&self.sets(core), xs, core)
+        self.read().view(xs)
     }
 
     // How many sets there are.
-    pub fn rank(&self, core: Core) -> u16
-        ensures { result ≡ size (read core self.now) }
+    pub fn rank(&self) -> u16
+        ensures { result ≡ size (read K.core self.now) }
     {
-        self.counted(&self.sets(core), core)
+        self.read().rank()
     }
 
     // The sets below the width, if the core is there.
-    fn narrowed(&self, core: Core, first: Mask) -> Family
-        requires { first ≡ the_core core (read_width self.now) }
-        ensures { Off core self.now result }
+    fn narrowed(&self, first: Mask) -> Family
+        requires { first ≡ the_core K.core (read_width self.now) }
+        ensures { Off K.core self.now result }
     {
         if self.map.has(first) {
             self.map.narrowed(self.width())
@@ -116,54 +123,28 @@ impl Row {
         }
     }
 
-    fn united(&self, other: &Row, core: Core) -> Row
+    fn united(&self, other: &Row<K>) -> Row<K>
         requires { read_width self.now ≡ read_width other.now }
-        ensures { read core result ≡ joined (read core self.now) (read core other.now) }
+        ensures { read K.core result ≡ joined (read K.core self.now) (read K.core other.now) }
     {
-        let map = self.sets(core).union(&other.sets(core));
-        Row {
-            width: self.width(),
-            map,
-        }
+        let map = self.sets().union(&other.sets());
+        Row::new(self.width(), map)
     }
 
-    fn viewed(&self, sets: &Family, xs: &[u8], core: Core) -> Row
-        requires { Off core self.now sets.now }
-        ensures reads { ViewReads core (read core self.now) (take widest xs.now) (read core result) }
-        ensures rule { ViewFollows core (read core self.now) (take widest xs.now) (read core result) }
-        ensures lost { ViewLost core (read core self.now) (take widest xs.now) (read core result) }
+    // The row without sets.
+    fn empty(width: u8) -> Row<K>
+        requires { width ≤ widest }
+        ensures { read K.core result ≡ none width }
     {
-        let width = mask::first(xs).len() as u8;
-        Row {
-            width,
-            map: sets.view(xs),
-        }
+        Row::new(width, Family::new())
     }
 
-    fn counted(&self, sets: &Family, core: Core) -> u16
-        requires { Off core self.now sets.now }
-        ensures { result ≡ size (read core self.now) }
+    // The row of the sets that are meant.
+    fn made(width: u8, sets: Listing, first: Mask, map: Family) -> Row<K>
+        requires core { first ≡ the_core K.core (min width widest) }
+        requires listed { (width ≤ widest) × InBounds width sets × ((h : ℕ) → T (holds map h) ↔ Meant first sets h) }
+        ensures { Meaning K.core width sets.entry (read K.core result) }
     {
-        sets.count()
+        Row::new(width, map)
     }
-}
-
-// The row without sets.
-fn empty(width: u8, core: Core) -> Row
-    requires { width ≤ widest }
-    ensures { read core result ≡ none width }
-{
-    Row {
-        width,
-        map: Family::new(),
-    }
-}
-
-// The row of the sets that are meant.
-fn made(width: u8, sets: Listing, core: Core, first: Mask, map: Family) -> Row
-    requires core { first ≡ the_core core (min width widest) }
-    requires listed { (width ≤ widest) × InBounds width sets × ((h : ℕ) → T (holds map h) ↔ Meant first sets h) }
-    ensures { Meaning core width sets.entry (read core result) }
-{
-    Row { width, map }
 }

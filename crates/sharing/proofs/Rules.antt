@@ -17,6 +17,10 @@ use Rattle.sharing.specs.Laws.Picks.{Picked, picks_some, some_picks, United, uni
 -- ---- a union of all is a union of some
 
 module _ (a : Value) (p : ℕ → Bool) (h : ℕ) where
+  pub carrier : United a p h → (i : ℕ) → T (bit h i) → Picked a p h (λ g. bit g i)
+  carrier k i b =
+      ⊎_elim (λ low. k.covered i low b) (λ high. absurd (below_bits a.width h i k.below high b)) (cases_lt i a.width)
+
   -- a group of a that passes
   abbrev Passing : ℕ → Type 0
   Passing g = T (a.has g) × T (p g)
@@ -47,7 +51,7 @@ module _ (a : Value) (p : ℕ → Bool) (h : ℕ) where
         k.also,
       )
 
-  selection : United a p h → Selection Passing h
+  pub selection : United a p h → Selection Passing h
   selection k = record {
     sets = all_inner;
     each = λ g l. let f = inner_facts g l in (f.1, f.2);
@@ -61,9 +65,7 @@ module _ (a : Value) (p : ℕ → Bool) (h : ℕ) where
           ⊎_elim (λ low. within_at a.width g h f.3 i low b) (λ high. absurd (below_bits a.width g i f.0 high b)) (cases_lt i a.width)
 
       from : (i : ℕ) → T (bit h i) → T (bit (together all_inner) i)
-      from i b =
-          ⊎_elim (λ low. let (g, l, t) = picked_inner (λ g. bit g i) (k.covered i low b) in one_together all_inner g i l t)
-          (λ high. absurd (below_bits a.width h i k.below high b)) (cases_lt i a.width)
+      from i b = let (g, l, t) = picked_inner (λ g. bit g i) (carrier k i b) in one_together all_inner g i l t
 
   module _ (fits : Fits a) (s : Selection Passing h) where
     selected_picked : (q : ℕ → Bool) → One q s.sets → Picked a p h q
@@ -76,7 +78,7 @@ module _ (a : Value) (p : ℕ → Bool) (h : ℕ) where
       also = t;
     }
 
-    selected_united : United a p h
+    pub selected_united : United a p h
     selected_united = record {
       below =
           subst (λ (k : ℕ). k < 2 ^ a.width) s.whole

@@ -10,8 +10,8 @@ use Rattle.std.specs.Prelude.{◌≡◌, ℕ, ◌+◌, length, refl}
 use Rattle.std.proofs.Common.{sym, subst, ◌∙◌}
 use Rattle.domain.specs.Model.{Lawful, Exact}
 use Rattle.sharing.specs.Sharing.{Describes, tied, entered, backed, sharing, read}
-use Rattle.rows.specs.declared.row.Core.TheVariants.{Empty}
-use Rattle.rows.proofs.Reading.{read_narrow, read_fits, read_cored}
+use Rattle.rows.specs.Cores.{Empty}
+use Rattle.rows.proofs.Readings.{read_narrow, read_fits, read_cored}
 use Rattle.rows.proofs.Values.{under_refl, under_trans, under_antisym, never_least, join_left, join_right, join_least, view_grows, rank_bound, rank_rises}
 use Rattle.sharing.specs.Laws.TieLaw.{tie_describes}
 use Rattle.sharing.specs.Laws.BackLaw.{back_describes}

@@ -1,33 +1,27 @@
--- What the parts of the functions make of the groups.
-use Rattle.std.specs.Prelude.{ℕ, T, ◌↔◌, List}
+-- What the parts of `tie` and `back` make of the groups.
+use Rattle.std.specs.Prelude.{◌≡◌, ℕ, not, ◌&&◌, List}
 use Rattle.families.specs.declared.family.Family.{Family}
 use Rattle.families.specs.Masks.{bit, cut, meets}
-use Rattle.families.specs.Unions.{Selection}
-use Rattle.rows.specs.Values.{Value}
 use Rattle.families.specs.Words.{holds}
-use Rattle.sharing.specs.Sharing.{touches}
-use Rattle.sharing.specs.Rules.{Touched, Passed}
-
--- the family has the groups with the property, and no others
-abbrev pub Just : (ℕ → Type 0) → Family → Type 0
-Just P f = (h : ℕ) → T (holds f h) ↔ P h
+use Rattle.rows.specs.Values.{Value}
+use Rattle.sharing.specs.Sharing.{touches, union}
 
 -- ---- of a tie
 
--- a group that an equation leaves alone
-abbrev pub Untouched : Value → ℕ → List ℕ → ℕ → Type 0
-Untouched a x ys h = T (a.has h) × (T (touches x ys h) → ⊥)
+-- the groups that an equation leaves alone
+abbrev pub Untouched : Value → ℕ → List ℕ → Family → Type 0
+Untouched a x ys f = (h : ℕ) → holds f h ≡ (a.has h && not (touches x ys h))
 
--- A union that an equation makes. Where the union has x, one of its groups has; where it meets ys, one of them does.
-abbrev pub Joined : Value → ℕ → List ℕ → ℕ → Type 0
-Joined a x ys h = Selection (Touched a x ys) h × T (bit h x) × T (meets ys h)
+-- The unions that an equation makes. Where a union has x, one of its groups has; where it meets ys, one of them does.
+abbrev pub Joined : Value → ℕ → List ℕ → Family → Type 0
+Joined a x ys f = (h : ℕ) → holds f h ≡ (union a (touches x ys) h && (bit h x && meets ys h))
 
 -- ---- of a return
 
--- a group that a call leaves alone
-abbrev pub Unpassed : Value → List ℕ → ℕ → Type 0
-Unpassed a args h = T (a.has h) × (T (meets args h) → ⊥)
+-- the groups that a call leaves alone
+abbrev pub Unpassed : Value → List ℕ → Family → Type 0
+Unpassed a args f = (h : ℕ) → holds f h ≡ (a.has h && not (meets args h))
 
--- A union that a call makes. Where it meets the arguments it is one of one group or more.
-abbrev pub Returned : Value → List ℕ → Value → ℕ → Type 0
-Returned a args b h = Selection (Passed a args) h × T (meets args h) × T (b.has (cut args h))
+-- The unions that a call makes. Where a union meets the arguments it is one of one group or more.
+abbrev pub Returned : Value → List ℕ → Value → Family → Type 0
+Returned a args b f = (h : ℕ) → holds f h ≡ (union a (meets args) h && (meets args h && b.has (cut args h)))

@@ -1,21 +1,28 @@
 // Values made of what a caller lists.
-ghost use Rattle.rows.specs.Make.{Makes};
-ghost use Rattle.rows.specs.declared.row.Core.TheVariants.{Empty};
+ghost use Rattle.rows.specs.Make.{Makes, MakesValue};
+ghost use Rattle.rows.specs.Cores.{Empty as empty};
 ghost use Rattle.sharing.specs.Sharing.{read};
 
 use super::groups::Groups;
 use domain::Refusal;
 use families::Listing;
-use rows::{Core, Row};
+use rows::Row;
 
 impl Groups {
-    // Writes never, or the value of the groups listed with the empty one, to the place. It refuses a width past the
-    // largest, then a listed variable that is not below the width, and leaves the place as it was then.
-    pub fn make(width: u8, groups: Listing, place: &mut Groups) -> Result<(), Refusal>
-        ensures { Makes Empty read width groups.entry place.old result place.new }
+    // Never, or the value of the groups listed with the empty one. It refuses a width past the largest, then a listed variable
+    // that is not below the width.
+    pub fn listed(width: u8, groups: Listing) -> Result<Groups, Refusal>
+        ensures { MakesValue empty read width groups.entry result }
     {
-        let row = Row::listed(width, groups, Core::Empty)?;
-        *place = Groups { row };
+        let row = Row::listed(width, groups)?;
+        Ok(Groups { row })
+    }
+
+    // Writes it to a place of the caller's, as the rules have it: where it is refused the place is left as it was.
+    pub fn make(width: u8, groups: Listing, place: &mut Groups) -> Result<(), Refusal>
+        ensures { Makes empty read width groups.entry place.old result place.new }
+    {
+        *place = Groups::listed(width, groups)?;
         Ok(())
     }
 }

@@ -9,8 +9,9 @@ ghost use Rattle.sharing.specs.Laws;
 ghost use Rattle.std.proofs.Common.{rules};
 
 use super::groups::Groups;
+use super::parts::{none_has, none_has_both};
 use domain::{Domain, Exact, WIDEST};
-use rows::{Core, Row};
+use rows::Row;
 
 impl Domain for Groups {
     ghost model = { the_model };
@@ -19,6 +20,7 @@ impl Domain for Groups {
 
     ghost narrow = { Prim.search rules };
 
+    // Width, never, below, join, view and rank are one call each of the row's, which has the code for all domains of rows.
     fn width(&self) -> u8
         ensures { result ≡ (read self.now).width }
     {
@@ -29,16 +31,14 @@ impl Domain for Groups {
     fn never(n: u8) -> Groups
         ensures { read result ≡ none (min n widest) }
     {
-        Groups {
-            row: Row::never(n, Core::Empty),
-        }
+        Groups { row: Row::never(n) }
     }
 
     fn below(&self, other: &Groups) -> bool
         ensures yes { T result → Under (read self.now) (read other.now) }
         ensures only { Under (read self.now) (read other.now) → T result }
     {
-        self.row.below(&other.row, Core::Empty)
+        self.row.below(&other.row)
     }
 
     // A value of another width adds nothing.
@@ -47,7 +47,7 @@ impl Domain for Groups {
         ensures differ { ((read self.now).width ≢ (read other.now).width) → result ≡ self.now }
     {
         Groups {
-            row: self.row.join(&other.row, Core::Empty),
+            row: self.row.join(&other.row),
         }
     }
 
@@ -56,9 +56,8 @@ impl Domain for Groups {
         ensures reads { read result ≡ tied (read self.now) x ys.now }
         ensures rule { TieRule (read self.now) x ys.now (read result) }
     {
-        let kept = self.untouched(x, ys);
         let joined = self.joined(x, ys);
-        self.tied(x, ys, &kept, &joined)
+        self.tied(x, ys, &joined)
     }
 
     // Of more variables than the largest width, the first count.
@@ -67,7 +66,7 @@ impl Domain for Groups {
         ensures rule { ViewRule (read self.now) (take widest xs.now) (read result) }
     {
         Groups {
-            row: self.row.view(xs, Core::Empty),
+            row: self.row.view(xs),
         }
     }
 
@@ -85,11 +84,9 @@ impl Domain for Groups {
         ensures rule { BackRule (read self.now) (take widest args.now) (read end.now) (read result) }
     {
         if !end.some() {
-            return self.stopped(args, end);
+            return Groups::never(self.width());
         }
-        let kept = self.unpassed(args);
-        let returned = self.returned(args, end);
-        self.backed(args, end, &kept, &returned)
+        self.backed(args, end)
     }
 
     fn ground(&self, x: u8) -> bool
@@ -98,7 +95,7 @@ impl Domain for Groups {
         ensures always { T result → AlwaysGround the_model (read self.now) x }
         ensures exact { AlwaysGround the_model (read self.now) x → T result }
     {
-        self.none_has(&self.groups(), x)
+        none_has(&self.row.read(), x)
     }
 
     fn apart(&self, x: u8, y: u8) -> bool
@@ -107,14 +104,14 @@ impl Domain for Groups {
         ensures always { T result → AlwaysApart the_model (read self.now) x y }
         ensures exact { AlwaysApart the_model (read self.now) x y → T result }
     {
-        self.none_has_both(&self.groups(), x, y)
+        none_has_both(&self.row.read(), x, y)
     }
 
     // How many groups there are.
     fn rank(&self) -> u16
         ensures { result ≡ size (read self.now) }
     {
-        self.row.rank(Core::Empty)
+        self.row.rank()
     }
 }
 

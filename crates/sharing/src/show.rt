@@ -4,7 +4,7 @@ use std::fmt;
 
 impl fmt::Display for Groups {
     fn fmt<W: fmt::Write>(&self, f: &mut fmt::Formatter<W>) -> fmt::Result {
-        let groups = self.groups();
+        let groups = self.row.sets();
         write!(f, "{groups}")
     }
 }

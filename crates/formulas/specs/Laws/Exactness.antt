@@ -7,7 +7,7 @@ use Rattle.domain.specs.Term.Term.{var, app}
 use Rattle.domain.specs.Term.Terms.{end}
 use Rattle.domain.specs.Model.{AlwaysGround, AlwaysApart}
 use Rattle.families.specs.Masks.{bit, whole}
-use Rattle.rows.specs.declared.row.Core.TheVariants.{Full}
+use Rattle.rows.specs.Cores.{Full}
 use Rattle.rows.specs.Rows.{Cored}
 use Rattle.rows.specs.Values.{Value, Fits}
 use Rattle.formulas.specs.Formulas.{Grounded, Modelled, Describes, Ground, Apart, formulas}

@@ -7,7 +7,7 @@ use Rattle.domain.specs.Term.{Term, Occurs, term_at}
 use Rattle.domain.specs.Term.Term.{var, app}
 use Rattle.domain.specs.Term.Terms.{end}
 use Rattle.families.specs.Masks.{bit}
-use Rattle.rows.specs.declared.row.Core.TheVariants.{Empty}
+use Rattle.rows.specs.Cores.{Empty}
 use Rattle.rows.specs.Rows.{Cored}
 use Rattle.rows.specs.Values.{Value, Fits}
 use Rattle.sharing.specs.Sharing.{sharing, Grouped, Describes, Ground, Apart}

@@ -1,25 +1,24 @@
-use Rattle.std.proofs.Common.{◌≡◌, ℕ, ◌&&◌, take, ap, ◌∙◌, subst}
+use Rattle.std.proofs.Common.{◌≡◌, ℕ, ◌&&◌, List, take, arith, ◌∙◌}
+use Rattle.std.proofs.Math.Bool.{and_assoc}
+use Rattle.std.proofs.lemmas.Grind.{common_steps}
 use Rattle.domain.specs.Variables.{widest}
-use Rattle.families.specs.Masks.{overlaps, coded}
+use Rattle.families.specs.Masks.{cut, meets}
 use Rattle.families.specs.Words.{holds}
-use Rattle.rows.specs.declared.row.Core.TheVariants.{Empty}
-use Rattle.sharing.specs.Sharing.{read}
-use Rattle.rows.proofs.Reading.{read_narrow, read_fits}
-use Rattle.sharing.proofs.Steps.{returned_is}
+use Rattle.rows.specs.Cores.{Empty}
+use Rattle.rows.proofs.Readings.{read_narrow, read_fits}
+use Rattle.sharing.specs.Sharing.{read, union}
+use Rattle.sharing.proofs.Steps.{met_listed}
+use Rattle.sharing.proofs.Joins.{unions_are}
 use Rattle.sharing.proofs.groups.Groups.returned.Goals as goal
 
 pub returns : goal.returns
-returns c =
+returns c h =
     let v = c.args.self.now in
-    let groups = holds c.groups.result in
-    let some = holds c.meeting.result in
-    let unions = holds c.unions-unions.result in
-    let some_met = holds c.meeting-2.result in
-    let all = holds c.viewed_in.result in
-    let passed = c.of-passed.ensures ∙ ap coded c.first.ensures in
-    returned_is (read v) (read_fits Empty v.row) (read_narrow v.row) (take widest c.args.args.now) (read c.args.end.now) groups some unions some_met all
-    (holds c.groups-2.result) c.groups.ensures c.groups-2.ensures
-    (subst (λ (m : ℕ). (g : ℕ) → some g ≡ (groups g && overlaps g m)) passed c.meeting.ensures)
-    c.unions-unions.ensures
-    (subst (λ (m : ℕ). (h : ℕ) → some_met h ≡ (unions h && overlaps h m)) passed c.meeting-2.ensures)
-    c.viewed_in.ensures
+    let a = read v in
+    let args : List ℕ = take widest c.args.args.now in
+    let p = meets args in
+    let some : (g : ℕ) → holds c.meeting.result g ≡ (a.has g && p g) = λ g. grind (arith, common_steps, met_listed) in
+    let unions = unions_are a (read_fits Empty v.row) (read_narrow v.row) p c.meeting.result c.unions-unions.result some c.unions-unions.ensures h in
+    let met : holds c.meeting-2.result h ≡ (holds c.unions-unions.result h && p h) = grind (arith, common_steps, met_listed) in
+    let viewed = cut args h in
+    c.viewed_in.ensures h ∙ rw (met, unions, c.sets-2.ensures viewed) (and_assoc (union a p h) (p h) ((read c.args.end.now).has viewed))

@@ -1,10 +1,9 @@
 use Rattle.std.proofs.Common.{◌≡◌, sym, subst}
-use Rattle.families.specs.Words.{holds}
-use Rattle.rows.specs.declared.row.Core.TheVariants.{Empty}
-use Rattle.sharing.specs.Sharing.{read, tied}
+use Rattle.rows.specs.Cores.{Empty}
+use Rattle.rows.proofs.Readings.{stored, read_narrow, read_fits, read_cored}
+use Rattle.sharing.specs.Sharing.{read, value_in, tied}
 use Rattle.sharing.specs.Rules.{TieRule}
 use Rattle.sharing.proofs.Closure.{tied_fits, tied_cored}
-use Rattle.rows.proofs.Reading.{stored, read_narrow, read_fits, read_cored}
 use Rattle.sharing.proofs.Rules.{tied_rule}
 use Rattle.sharing.proofs.Steps.{tied_is}
 use Rattle.sharing.proofs.groups.Groups.tied.Goals as goal
@@ -15,10 +14,9 @@ returns c =
     let a = read v in
     let x = c.args.x in
     let ys = c.args.ys.now in
-    let reads : read (record { row = record { width = c.width.result; map = c.union.result } }) ≡ tied a x ys =
-    stored Empty c.width.result c.union.result (tied a x ys) c.width.ensures (read_narrow v.row)
-    (tied_fits a x ys (read_fits Empty v.row)) (tied_cored a x ys (read_cored Empty v.row))
-    (λ h l.
-    tied_is a (read_fits Empty v.row) (read_narrow v.row) x ys (holds c.args.kept.now) (holds c.args.joined.now) (holds c.union.result)
-    c.requires.kept c.requires.joined c.union.ensures h) in
-    record { reads = reads; rule = subst (TieRule a x ys) (sym reads) (tied_rule a (read_fits Empty v.row) x ys) }
+    let fits = read_fits Empty v.row in
+    let is = tied_is a x ys c.untouched-kept.result c.args.joined.now c.union.result c.untouched-kept.ensures c.requires c.union.ensures in
+    let reads : value_in c.new.result ≡ tied a x ys =
+    stored Empty c.new.result (tied a x ys) c.new.ensures c.width.ensures (read_narrow v.row) (tied_fits a x ys fits)
+    (tied_cored a x ys fits (read_cored Empty v.row)) (λ h low. is h) in
+    record { reads = reads; rule = subst (TieRule a x ys) (sym reads) (tied_rule a fits x ys) }

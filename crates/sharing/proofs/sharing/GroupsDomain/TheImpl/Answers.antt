@@ -1,7 +1,7 @@
 use Rattle.std.proofs.Common.{ℕ, List, ap, ◌∙◌}
 use Rattle.rows.specs.Values.{viewed}
 use Rattle.sharing.specs.Sharing.{read, backed}
-use Rattle.rows.proofs.Reading.{all_taken}
+use Rattle.rows.proofs.Readings.{all_taken}
 use Rattle.sharing.proofs.sharing.GroupsDomain.TheImpl.Goals as goal
 
 pub view-tells : goal.view-tells
