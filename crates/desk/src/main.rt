@@ -8,6 +8,7 @@ mod report;
 
 use clause::{Clause, Rows};
 use domain::Refusal;
+use families::Listing;
 use formulas::Models;
 use goals::Goal;
 use sharing::Groups;
@@ -52,8 +53,9 @@ fn rehearse(rt: &HostRuntime) -> anyhow::Result<()> {
 
 // One of the two titles is known when the clause is called, and they share nothing.
 fn entry(arguments: u8) -> Result<Rows, Refusal> {
+    let titles: Listing = Some(&[&[0], &[1]]);
     Ok(Rows {
-        groups: Groups::listed(arguments, Some(&[&[0], &[1]]))?,
-        models: Models::listed(arguments, Some(&[&[0], &[1]]))?,
+        groups: Groups::listed(arguments, titles)?,
+        models: Models::listed(arguments, titles)?,
     })
 }

@@ -1,11 +1,9 @@
 // The way of a clause in print. It only prints: what it prints is computed by proved functions.
 use super::clause::{Clause, Rows};
 use super::differences;
-use domain::{Domain, WIDEST};
+use domain::Domain;
 use goals::Goal;
-use std::{array, io};
-
-const MOST: usize = WIDEST as usize;
+use std::io;
 
 // The clause from its entry rows to its end, the verdicts there, and which goals may run side by side.
 pub fn clause(rt: &impl Print, clause: &Clause, entry: &Rows) -> io::Result<()> {
@@ -20,32 +18,6 @@ pub fn clause(rt: &impl Print, clause: &Clause, entry: &Rows) -> io::Result<()> 
     verdicts(rt, "models", &end.models)?;
     println!(rt; "side by side")?;
     neighbours(rt, clause, &start)
-}
-
-impl Rows {
-    fn enter(&self, variables: u8) -> Rows {
-        Rows {
-            groups: self.groups.enter(variables),
-            models: self.models.enter(variables),
-        }
-    }
-
-    fn after(&self, goal: &Goal) -> Rows {
-        Rows {
-            groups: goals::after(&self.groups, goal),
-            models: goals::after(&self.models, goal),
-        }
-    }
-
-    // What a clause returns that ends with these rows: what they are at the arguments of its head.
-    fn at_head(&self, arguments: u8) -> Rows {
-        let all: [u8; MOST] = array::from_fn(|x| x as u8);
-        let head = &all[..arguments.min(WIDEST) as usize];
-        Rows {
-            groups: self.groups.view(head),
-            models: self.models.view(head),
-        }
-    }
 }
 
 fn rows(rt: &impl Print, rows: &Rows) -> io::Result<()> {

@@ -1,7 +1,10 @@
 -- What lies in words, word by word: the laws of `lies` that the code over words stands on. Over any number of words.
 -- Assumes nothing.
 use Rattle.std.proofs.Common.{◌≡◌, ℕ, zero, suc, ◌+◌, ◌*◌, ◌/◌, ◌%◌, ◌^◌, ◌<◌, ◌≤◌, Bool, false, ◌&&◌, ◌||◌, T, eqb, ltb, List, [], ◌∷◌, length, get_or, set, sym, ap, ◌∙◌, subst, ap₂, ⊎_elim, arith, eqb→eq, ltb→lt, lt→ltb, get_or-set_other, get_or-set_same}
+use Rattle.std.specs.Array.{IsFromFnResult, IsFromFnResultFrom}
+use Rattle.std.specs.Fn.{Called}
 use Rattle.std.specs.List.{list_all, zip}
+use denote.Param.Members.{Mut}
 use lib.Bits.{bit_or}
 use lib.Count.{ones}
 use lib.Dec.{eqb_refl}
@@ -108,6 +111,23 @@ within_or us vs k fits each = same_bits (bit_or a b) b to from
 
     from : (i : ℕ) → T (bit b i) → T (bit (bit_or a b) i)
     from i t = subst T (sym (bit_of_or a b i)) (or_right (bit a i) (bit b i) t)
+
+-- ---- an array made by a call at each place
+
+module _ {F : Type 0} (g : Mut F (ℕ × Unit {0}) ℕ) (f : F) (P : ℕ → ℕ → Type 0) (ys : List ℕ)
+    (each : (i y : ℕ) (q : F) → Called g f (i, tt) y q → (q ≡ f) × P i y) where
+  made_from : (i n : ℕ) → IsFromFnResultFrom g f ys i n → (k : ℕ) → i ≤ k → k < i + n → P k (get_or ys k 0)
+  made_from i zero all k low high = absurd (omega arith)
+  made_from i (suc n) all k low high =
+      let (q, y, here, called, rest) = all in
+      let (same, held) = each i y q called in
+      ⊎_elim (λ e. subst (λ (j : ℕ). P j (get_or ys j 0)) (sym e) (subst (P i) (sym (here.1 0)) held))
+      (λ d. made_from (i + 1) n (subst (λ (p : F). IsFromFnResultFrom g p ys (i + 1) n) same rest) k (omega arith) (omega arith))
+      (cases_eq k i)
+
+-- what every call gives, the array has at each place
+pub from_fn_at : {F : Type 0} {g : Mut F (ℕ × Unit {0}) ℕ} {f : F} {ys : List ℕ} {n : ℕ} → IsFromFnResult g f ys n → (P : ℕ → ℕ → Type 0) → ((i y : ℕ) (q : F) → Called g f (i, tt) y q → (q ≡ f) × P i y) → (k : ℕ) → k < n → P k (get_or ys k 0)
+from_fn_at {F} {g} {f} {ys} {n} made P each k low = made_from g f P ys each 0 n made.each k (omega arith) (omega arith)
 
 -- ---- a test of each two words
 

@@ -1,5 +1,5 @@
 // A set of sets of variables, one bit for each set.
-ghost use Rattle.std.specs.Prelude.{◌≡◌, ℕ, Bool, T, take, ◌<◌, ◌==◌, bit_or, slice_index, ◌^◌};
+ghost use Rattle.std.specs.Prelude.{◌≡◌, ℕ, T, take, ◌<◌, ◌==◌, bit_or, slice_index, ◌^◌};
 ghost use Rattle.std.specs.List.{list_all, zip};
 ghost use Rattle.domain.specs.Variables.{widest};
 ghost use Rattle.families.specs.Families.{Nothing, Everything, Added, Either, Included, Passing, Cuts, AllUnions, inner_union};
@@ -138,10 +138,15 @@ impl Family {
 fn either(words: &[u64; WORDS], others: &[u64; WORDS]) -> [u64; WORDS]
     ensures { (k : ℕ) → k < word_count → slice_index result k ≡ bit_or (slice_index words.now k) (slice_index others.now k) }
 {
-    array::from_fn(|k| words[k] | others[k])
+    array::from_fn(
+        |k| -> u64
+            requires { k < word_count }
+            ensures { result ≡ bit_or (slice_index words.entry.now k) (slice_index others.entry.now k) }
+        { words[k] | others[k] },
+    )
 }
 
-// Whether the second words have each bit of the first.
+// Whether the second words have each bit of the first. That the first fit is known of every word, and handed on to a caller.
 fn none_more(words: &[u64; WORDS], others: &[u64; WORDS]) -> bool
     ensures test { result ≡ list_all (λ p. bit_or p.0 p.1 == p.1) (zip words.now others.now) }
     ensures fit { (k : ℕ) → slice_index words.now k < 2 ^ 64 }

@@ -8,22 +8,30 @@ use std::test::Fail;
 
 // One generic function would owe the `requires` of `Domain`, which the functions of these two domains drop.
 fn by_groups(given: Listed, function: Function) -> Result<Groups, Refusal> {
-    let given = Groups::listed(given.0, given.1)?;
+    let Listed(width, sets) = given;
+    let given = Groups::listed(width, sets)?;
     Ok(match function {
         Function::Tie { x, ys } => given.tie(x, ys),
         Function::View { xs } => given.view(xs),
         Function::Enter { v } => given.enter(v),
-        Function::Back { args, end } => given.back(args, &Groups::listed(end.0, end.1)?),
+        Function::Back {
+            args,
+            end: Listed(width, sets),
+        } => given.back(args, &Groups::listed(width, sets)?),
     })
 }
 
 fn by_models(given: Listed, function: Function) -> Result<Models, Refusal> {
-    let given = Models::listed(given.0, given.1)?;
+    let Listed(width, sets) = given;
+    let given = Models::listed(width, sets)?;
     Ok(match function {
         Function::Tie { x, ys } => given.tie(x, ys),
         Function::View { xs } => given.view(xs),
         Function::Enter { v } => given.enter(v),
-        Function::Back { args, end } => given.back(args, &Models::listed(end.0, end.1)?),
+        Function::Back {
+            args,
+            end: Listed(width, sets),
+        } => given.back(args, &Models::listed(width, sets)?),
     })
 }
 
@@ -31,15 +39,16 @@ fn by_models(given: Listed, function: Function) -> Result<Models, Refusal> {
 #[test]
 fn the_code_gives_the_figures(rt: HostRuntime) -> Result<(), Fail> {
     for figure in figures() {
+        let Listed(width, sets) = figure.expected;
         match figure.kind {
             Kind::Sharing => {
                 let result = by_groups(figure.given, figure.function)?;
-                let expected = Groups::listed(figure.expected.0, figure.expected.1)?;
+                let expected = Groups::listed(width, sets)?;
                 assert!(rt; result.below(&expected) && expected.below(&result));
             }
             Kind::Formulas => {
                 let result = by_models(figure.given, figure.function)?;
-                let expected = Models::listed(figure.expected.0, figure.expected.1)?;
+                let expected = Models::listed(width, sets)?;
                 assert!(rt; result.below(&expected) && expected.below(&result));
             }
         }

@@ -10,9 +10,9 @@ use Rattle.families.specs.Words.{sets}
 use Rattle.families.proofs.Overlaps.{overlaps_or, overlaps_alone}
 use Rattle.rows.specs.Cores.{Full}
 use Rattle.rows.specs.declared.row.Row.{Row}
+use Rattle.rows.specs.Rows.{read}
 use Rattle.rows.specs.Values.{Value}
 use Rattle.rows.proofs.Readings.{read_narrow, read_fits}
-use Rattle.formulas.specs.Formulas.{read_row}
 
 -- ---- the sets below a width are among all sets
 
@@ -21,10 +21,10 @@ all_below n narrow g low =
     let room : 2 ^ n ≤ sets = pow_mono narrow in
     lt-ltb g sets (omega arith) ∙ sym (lt-ltb g (2 ^ n) low)
 
-pub read_low : {K : Type 0} (r : Row K) (g : ℕ) → T ((read_row r).has g) → g < sets
+pub read_low : {K : Type 0} (r : Row K) (g : ℕ) → T ((read Full r).has g) → g < sets
 read_low r g held =
     let low = read_fits Full r g held in
-    let room : 2 ^ (read_row r).width ≤ sets = pow_mono (read_narrow r) in
+    let room : 2 ^ (read Full r).width ≤ sets = pow_mono (read_narrow r) in
     omega arith
 
 -- ---- the verdicts: no model is left that misses the mask, just where each model has what a mask that it meets says

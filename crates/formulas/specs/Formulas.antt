@@ -6,8 +6,7 @@ use Rattle.domain.specs.Term.{Term, Subst, Closed, apply, term_at}
 use Rattle.domain.specs.Model.{Model}
 use Rattle.families.specs.Masks.{bit, cut, covers}
 use Rattle.rows.specs.Cores.{Full}
-use Rattle.rows.specs.declared.row.Row.{Row}
-use Rattle.rows.specs.Rows.{read as read_by}
+use Rattle.rows.specs.Rows.{read as read_row}
 use Rattle.rows.specs.Values.{Value, Under, never, joined, viewed, rank}
 use Rattle.formulas.specs.declared.models.Models.{Models}
 
@@ -67,11 +66,8 @@ Apart a x y = (g : ℕ) → T (a.has g) → T (bit g x) ⊎ T (bit g y)
 -- ---- the model of the interface
 
 -- Whatever words are stored, this is a lawful value: never, where the model of all variables is missing.
-abbrev pub read_row : {K : Type 0} → Row K → Value
-read_row r = read_by Full r
-
 abbrev pub read : Models → Value
-read m = read_row m.row
+read m = read_row Full m.row
 
 abbrev pub formulas : Model Models
 formulas = record {

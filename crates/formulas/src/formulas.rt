@@ -12,7 +12,7 @@ ghost use Rattle.formulas.specs.Laws;
 ghost use Rattle.std.proofs.Common.{rules};
 
 use super::models::Models;
-use super::parts;
+use super::parts::unknown_at;
 use domain::{Domain, Exact, WIDEST};
 use rows::Row;
 
@@ -23,7 +23,8 @@ impl Domain for Models {
 
     ghost narrow = { Prim.search rules };
 
-    // Width, never, below, join and rank are one call each of the row's, which has the code for all domains of rows.
+    // Width, never, below, join and rank are one call each of the row's, which has the code for both domains. A trait
+    // that handed them on would need a function to the row and one from it, and be no shorter.
     fn width(&self) -> u8
         ensures { result ≡ (read self.now).width }
     {
@@ -60,9 +61,7 @@ impl Domain for Models {
         ensures rule { TieFollows (read self.now) x ys.now (read result) }
         ensures past { (Sides the_model (read self.now) x ys.now → ⊥) → result ≡ self.now }
     {
-        Models {
-            row: parts::tied(&self.row, x, ys),
-        }
+        self.tied(x, ys)
     }
 
     // Of more variables than the largest width, the first count; where one is past the width, nothing is known.
@@ -71,12 +70,12 @@ impl Domain for Models {
         ensures rule { ViewFollows full (read self.now) (take widest xs.now) (read result) }
         ensures past { ViewPast (read self.now) (take widest xs.now) (read result) }
     {
-        let row = if parts::has_all(&self.row, xs) {
-            self.row.view(xs)
-        } else {
-            parts::unknown_at(xs)
-        };
-        Models { row }
+        if !self.has_all(xs) {
+            return unknown_at(xs);
+        }
+        Models {
+            row: self.row.view(xs),
+        }
     }
 
     // A width below the value's own leaves it as it is, and one past the largest gives the largest.
@@ -84,9 +83,7 @@ impl Domain for Models {
         ensures reads { read result ≡ entered (read self.now) (max (read self.now).width (min v widest)) }
         ensures rule { EnterRule (read self.now) (max (read self.now).width (min v widest)) (read result) }
     {
-        Models {
-            row: parts::entered(&self.row, self.width().max(v.min(WIDEST))),
-        }
+        self.entered(self.width().max(v.min(WIDEST)))
     }
 
     // Of more arguments than the largest width, the first count; where one is past the width, or `end` has another number
@@ -96,9 +93,7 @@ impl Domain for Models {
         ensures rule { BackFollows (read self.now) (take widest args.now) (read end.now) (read result) }
         ensures past { (Matches (read self.now) (take widest args.now) (read end.now) → ⊥) → result ≡ self.now }
     {
-        Models {
-            row: parts::backed(&self.row, args, &end.row),
-        }
+        self.backed(args, end)
     }
 
     // Past the width a list has no variable.
@@ -107,7 +102,7 @@ impl Domain for Models {
         ensures always { T result → AlwaysGround the_model (read self.now) x }
         ensures exact { AlwaysGround the_model (read self.now) x → T result }
     {
-        x >= self.width() || parts::all_have(&self.row, x)
+        x >= self.width() || self.all_have(x)
     }
 
     fn apart(&self, x: u8, y: u8) -> bool
@@ -115,7 +110,7 @@ impl Domain for Models {
         ensures always { T result → AlwaysApart the_model (read self.now) x y }
         ensures exact { AlwaysApart the_model (read self.now) x y → T result }
     {
-        x.max(y) >= self.width() || parts::all_have_one(&self.row, x, y)
+        x.max(y) >= self.width() || self.all_have_one(x, y)
     }
 
     // How many models there are.

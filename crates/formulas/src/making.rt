@@ -9,8 +9,8 @@ use families::Listing;
 use rows::Row;
 
 impl Models {
-    // Never, or the value of the models listed with that of all variables. It refuses a width past the largest, then a listed variable
-    // that is not below the width.
+    // Never, or the value of the models listed with that of all variables. It refuses a width past the largest, then a
+    // listed variable that is not below the width.
     pub fn listed(width: u8, models: Listing) -> Result<Models, Refusal>
         ensures { MakesValue full read width models.entry result }
     {
@@ -18,7 +18,8 @@ impl Models {
         Ok(Models { row })
     }
 
-    // Writes it to a place of the caller's, as the rules have it: where it is refused the place is left as it was.
+    // Writes the value that `listed` gives to a place of the caller's, as the rules have it: where that is refused the
+    // place is left as it was.
     pub fn make(width: u8, models: Listing, place: &mut Models) -> Result<(), Refusal>
         ensures { Makes full read width models.entry place.old result place.new }
     {

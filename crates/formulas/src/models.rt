@@ -2,6 +2,7 @@
 // value is read off it.
 use rows::{Full, Row};
 
+// A type of its own, and no `Row` by another name, so that its functions have contracts in the words of the domain.
 #[derive(Clone, Copy)]
 pub struct Models {
     pub(crate) row: Row<Full>,

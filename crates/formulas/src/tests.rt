@@ -101,22 +101,14 @@ fn any_words_read_as_a_value(rt: HostRuntime) -> Result<(), Fail> {
     assert_eq!(rt; headless.to_string(rt.alloc())?.as_str(), "never");
     assert_eq!(rt; headless.rank(), 0);
     assert!(rt; headless.below(&Models::never(2)));
-    assert_eq!(rt;
-        (Models {
-            row: Row::new(3, map)
-        })
-        .to_string(rt.alloc())?
-        .as_str(),
-        "{0,012}"
-    );
-    assert_eq!(rt;
-        (Models {
-            row: Row::new(1, map)
-        })
-        .to_string(rt.alloc())?
-        .as_str(),
-        "{0}"
-    );
+    let whole = Models {
+        row: Row::new(3, map),
+    };
+    assert_eq!(rt; whole.to_string(rt.alloc())?.as_str(), "{0,012}");
+    let long = Models {
+        row: Row::new(1, map),
+    };
+    assert_eq!(rt; long.to_string(rt.alloc())?.as_str(), "{0}");
     map.insert(mask::all(8));
     let boundless = Models {
         row: Row::new(200, map),

@@ -5,7 +5,7 @@
 mod cores;
 mod reading;
 mod row;
+mod show;
 
 pub use cores::{Core, Empty, Full};
-pub use reading::Reading;
 pub use row::Row;

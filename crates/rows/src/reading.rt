@@ -1,4 +1,4 @@
-// What is read off a row. The fact stands in the type, so that what takes a reading need not ask for it.
+// What is read off a row. That it is stands in the type, so that what works on it need not ask for it.
 ghost use Rattle.rows.specs.Rows.{Off};
 
 use super::cores::Core;
@@ -7,9 +7,9 @@ use families::{Family, mask};
 
 // The sets of the lawful value that lies in a row.
 #[derive(Drop)]
-pub struct Reading<'r, K: Core> {
-    pub row: &'r Row<K>,
-    pub sets: Family,
+pub(crate) struct Reading<'r, K: Core> {
+    pub(crate) row: &'r Row<K>,
+    pub(crate) sets: Family,
     ghost off: { Off K.core row.now sets },
 }
 

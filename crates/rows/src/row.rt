@@ -52,7 +52,7 @@ impl<K: Core> Row<K> {
     }
 
     // What is read off the words.
-    pub fn read(&self) -> Reading<'_, K>
+    pub(crate) fn read(&self) -> Reading<'_, K>
         ensures { result.row.now ≡ self.now }
     {
         Reading {

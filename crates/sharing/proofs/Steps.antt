@@ -12,7 +12,7 @@ use Rattle.rows.specs.Cores.{Empty}
 use Rattle.rows.specs.Rows.{Cored}
 use Rattle.rows.specs.Values.{Value}
 use Rattle.sharing.specs.Sharing.{touches, picks, union, tied_has, backed_has}
-use Rattle.sharing.specs.Parts.{Untouched, Joined, Unpassed, Returned}
+use Rattle.sharing.specs.Parts.{AreUntouched, AreJoined, AreUnpassed, AreReturned}
 use Rattle.sharing.specs.Laws.Picks.{picks_some, union_all}
 use Rattle.sharing.proofs.Joins.{some_has, some_meets_ys, some_at_all}
 
@@ -58,7 +58,7 @@ missed_either f g x ys =
 
 -- ---- what the parts make up
 
-pub tied_is : (a : Value) (x : ℕ) (ys : List ℕ) (kept joined all : Family) → Untouched a x ys kept → Joined a x ys joined → Either kept joined all →
+pub tied_is : (a : Value) (x : ℕ) (ys : List ℕ) (kept joined all : Family) → AreUntouched a x ys kept → AreJoined a x ys joined → Either kept joined all →
     (h : ℕ) → holds all h ≡ tied_has a x ys h
 tied_is a x ys kept joined all kept_is joined_is all_is h =
     let p = touches x ys in
@@ -69,8 +69,8 @@ tied_is a x ys kept joined all kept_is joined_is all_is h =
     (λ t. let u = union_all a p h t in ap₂ ◌&&◌ (some_has a p h x u) (some_meets_ys a p h ys u)) in
     all_is h ∙ ap₂ ◌||◌ (kept_is h) (joined_is h ∙ sym same)
 
-pub backed_is : (a : Value) (args : List ℕ) (b : Value) (kept returned all : Family) → Cored Empty a → T (b.has 0) → Unpassed a args kept →
-    Returned a args b returned → Either kept returned all → (h : ℕ) → holds all h ≡ backed_has a args b h
+pub backed_is : (a : Value) (args : List ℕ) (b : Value) (kept returned all : Family) → Cored Empty a → T (b.has 0) → AreUnpassed a args kept →
+    AreReturned a args b returned → Either kept returned all → (h : ℕ) → holds all h ≡ backed_has a args b h
 backed_is a args b kept returned all full ends kept_is returned_is all_is h =
     let p = meets args in
     let some = picks a p h (λ g. true) in

@@ -6,7 +6,6 @@ use Rattle.domain.specs.Term.{Term, Occurs, term_at}
 use Rattle.domain.specs.Model.{Model}
 use Rattle.families.specs.Masks.{bit, cut, any, all, meets, within}
 use Rattle.rows.specs.Cores.{Empty}
-use Rattle.rows.specs.declared.row.Row.{Row}
 use Rattle.rows.specs.Rows.{read as read_row}
 use Rattle.rows.specs.Values.{Value, Under, never, joined, viewed, rank}
 use Rattle.sharing.specs.declared.groups.Groups.{Groups}
@@ -81,12 +80,9 @@ Apart a x y = (g : ℕ) → T (a.has g) → T (bit g x) → T (bit g y) → ⊥
 
 -- ---- the model of the interface
 
--- Whatever lies in a row, this is a lawful value: never, where the empty group is missing.
-abbrev pub value_in : {K : Type 0} → Row K → Value
-value_in r = read_row Empty r
-
+-- Whatever words are stored, this is a lawful value: never, where the empty group is missing.
 abbrev pub read : Groups → Value
-read r = value_in r.row
+read r = read_row Empty r.row
 
 abbrev pub sharing : Model Groups
 sharing = record {

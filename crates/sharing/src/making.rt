@@ -9,8 +9,8 @@ use families::Listing;
 use rows::Row;
 
 impl Groups {
-    // Never, or the value of the groups listed with the empty one. It refuses a width past the largest, then a listed variable
-    // that is not below the width.
+    // Never, or the value of the groups listed with the empty one. It refuses a width past the largest, then a
+    // listed variable that is not below the width.
     pub fn listed(width: u8, groups: Listing) -> Result<Groups, Refusal>
         ensures { MakesValue empty read width groups.entry result }
     {
@@ -18,7 +18,8 @@ impl Groups {
         Ok(Groups { row })
     }
 
-    // Writes it to a place of the caller's, as the rules have it: where it is refused the place is left as it was.
+    // Writes the value that `listed` gives to a place of the caller's, as the rules have it: where that is refused the
+    // place is left as it was.
     pub fn make(width: u8, groups: Listing, place: &mut Groups) -> Result<(), Refusal>
         ensures { Makes empty read width groups.entry place.old result place.new }
     {

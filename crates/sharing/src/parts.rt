@@ -5,14 +5,14 @@ ghost use Rattle.domain.specs.Variables.{widest};
 ghost use Rattle.families.specs.Families.{Part};
 ghost use Rattle.families.specs.Masks.{any, bit};
 ghost use Rattle.families.specs.Words.{holds};
-ghost use Rattle.sharing.specs.Sharing.{sharing as the_model, read, value_in, tied as the_tie, entered as the_entry, backed as the_return, Ground, Apart};
+ghost use Rattle.sharing.specs.Sharing.{sharing as the_model, read, tied as the_tie, entered as the_entry, backed as the_return, Ground, Apart};
 ghost use Rattle.sharing.specs.Rules.{TieRule, EnterRule, BackRule};
-ghost use Rattle.sharing.specs.Parts.{Untouched, Joined, Unpassed, Returned};
+ghost use Rattle.sharing.specs.Parts.{AreUntouched, AreJoined, AreUnpassed, AreReturned};
 
 use super::groups::Groups;
 use domain::Domain;
 use families::{Family, mask};
-use rows::{Empty, Reading, Row};
+use rows::Row;
 
 impl Groups {
     // Whether there is a group at all.
@@ -25,14 +25,14 @@ impl Groups {
     // The groups that an equation leaves alone.
     #[tactic(auto, using(crate::proofs::Steps::missed_either))]
     pub(crate) fn untouched(&self, x: u8, ys: &[u8]) -> Family
-        ensures { Untouched (read self.now) x ys.now result }
+        ensures { AreUntouched (read self.now) x ys.now result }
     {
         self.row.sets().missing(mask::only(x) | mask::of(ys))
     }
 
     // The unions that an equation makes of the others.
     pub(crate) fn joined(&self, x: u8, ys: &[u8]) -> Family
-        ensures { Joined (read self.now) x ys.now result }
+        ensures { AreJoined (read self.now) x ys.now result }
     {
         let right = mask::of(ys);
         let touched = self.row.sets().meeting(mask::only(x) | right);
@@ -42,7 +42,7 @@ impl Groups {
 
     // The groups that an equation leaves alone, with the unions that it makes.
     pub(crate) fn tied(&self, x: u8, ys: &[u8], joined: &Family) -> Groups
-        requires { Joined (read self.now) x ys.now joined.now }
+        requires { AreJoined (read self.now) x ys.now joined.now }
         ensures reads { read result ≡ the_tie (read self.now) x ys.now }
         ensures rule { TieRule (read self.now) x ys.now (read result) }
     {
@@ -70,14 +70,14 @@ impl Groups {
     // The groups that a call leaves alone.
     #[tactic(auto, using(crate::proofs::Steps::missed_listed))]
     fn unpassed(&self, args: &[u8]) -> Family
-        ensures { Unpassed (read self.now) (take widest args.now) result }
+        ensures { AreUnpassed (read self.now) (take widest args.now) result }
     {
         self.row.sets().missing(mask::of(mask::first(args)))
     }
 
     // The unions that a call makes of the others, where it ends as `end` says.
     fn returned(&self, args: &[u8], end: &Groups) -> Family
-        ensures { Returned (read self.now) (take widest args.now) (read end.now) result }
+        ensures { AreReturned (read self.now) (take widest args.now) (read end.now) result }
     {
         let passed = mask::of(mask::first(args));
         let unions = self.row.sets().meeting(passed).unions();
@@ -96,6 +96,26 @@ impl Groups {
             row: Row::new(self.width(), kept.union(&returned)),
         }
     }
+
+    // Whether no group has x.
+    pub(crate) fn none_has(&self, x: u8) -> bool
+        ensures yes { T result → Ground (read self.now) x }
+        ensures only { Ground (read self.now) x → T result }
+        ensures always { T result → AlwaysGround the_model (read self.now) x }
+        ensures exact { AlwaysGround the_model (read self.now) x → T result }
+    {
+        having(&self.row.sets(), x).is_empty()
+    }
+
+    // Whether no group has both.
+    pub(crate) fn none_has_both(&self, x: u8, y: u8) -> bool
+        ensures yes { T result → Apart (read self.now) x y }
+        ensures only { Apart (read self.now) x y → T result }
+        ensures always { T result → AlwaysApart the_model (read self.now) x y }
+        ensures exact { AlwaysApart the_model (read self.now) x y → T result }
+    {
+        having(&having(&self.row.sets(), x), y).is_empty()
+    }
 }
 
 // The groups that have x.
@@ -104,26 +124,6 @@ fn having(groups: &Family, x: u8) -> Family
     ensures { Part groups.now (λ g. bit g x) result }
 {
     groups.meeting(mask::only(x))
-}
-
-// Whether no group has x.
-pub(crate) fn none_has(groups: &Reading<Empty>, x: u8) -> bool
-    ensures yes { T result → Ground (value_in groups.now.row.now) x }
-    ensures only { Ground (value_in groups.now.row.now) x → T result }
-    ensures always { T result → AlwaysGround the_model (value_in groups.now.row.now) x }
-    ensures exact { AlwaysGround the_model (value_in groups.now.row.now) x → T result }
-{
-    having(&groups.sets, x).is_empty()
-}
-
-// Whether no group has both.
-pub(crate) fn none_has_both(groups: &Reading<Empty>, x: u8, y: u8) -> bool
-    ensures yes { T result → Apart (value_in groups.now.row.now) x y }
-    ensures only { Apart (value_in groups.now.row.now) x y → T result }
-    ensures always { T result → AlwaysApart the_model (value_in groups.now.row.now) x y }
-    ensures exact { AlwaysApart the_model (value_in groups.now.row.now) x y → T result }
-{
-    having(&having(&groups.sets, x), y).is_empty()
 }
 
 // The family with each variable from the first number up to the second, alone.

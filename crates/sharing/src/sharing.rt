@@ -9,7 +9,6 @@ ghost use Rattle.sharing.specs.Laws;
 ghost use Rattle.std.proofs.Common.{rules};
 
 use super::groups::Groups;
-use super::parts::{none_has, none_has_both};
 use domain::{Domain, Exact, WIDEST};
 use rows::Row;
 
@@ -20,7 +19,8 @@ impl Domain for Groups {
 
     ghost narrow = { Prim.search rules };
 
-    // Width, never, below, join, view and rank are one call each of the row's, which has the code for all domains of rows.
+    // Width, never, below, join, view and rank are one call each of the row's, which has the code for both domains. A trait
+    // that handed them on would need a function to the row and one from it, and be no shorter.
     fn width(&self) -> u8
         ensures { result ≡ (read self.now).width }
     {
@@ -95,7 +95,7 @@ impl Domain for Groups {
         ensures always { T result → AlwaysGround the_model (read self.now) x }
         ensures exact { AlwaysGround the_model (read self.now) x → T result }
     {
-        none_has(&self.row.read(), x)
+        self.none_has(x)
     }
 
     fn apart(&self, x: u8, y: u8) -> bool
@@ -104,7 +104,7 @@ impl Domain for Groups {
         ensures always { T result → AlwaysApart the_model (read self.now) x y }
         ensures exact { AlwaysApart the_model (read self.now) x y → T result }
     {
-        none_has_both(&self.row.read(), x, y)
+        self.none_has_both(x, y)
     }
 
     // How many groups there are.

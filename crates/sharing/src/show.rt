@@ -1,10 +1,9 @@
-// Values in print: the groups that are read off the words.
+// Values in print, by the one call of what prints rows: the groups that are read off the words.
 use super::groups::Groups;
 use std::fmt;
 
 impl fmt::Display for Groups {
     fn fmt<W: fmt::Write>(&self, f: &mut fmt::Formatter<W>) -> fmt::Result {
-        let groups = self.row.sets();
-        write!(f, "{groups}")
+        write!(f, "{}", self.row)
     }
 }

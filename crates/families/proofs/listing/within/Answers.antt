@@ -1,6 +1,3 @@
-use Rattle.std.proofs.Common.{ℕ, List, subst, Bor}
-use Rattle.std.proofs.lemmas.List.{take_all}
-use Rattle.families.specs.Listings.{Within}
 use Rattle.families.proofs.Listings.{within_more, within_at}
 use Rattle.families.proofs.listing.within.Goals as goal
 
@@ -16,10 +13,3 @@ pub loop-set-preserved : goal.loop-set-preserved
 loop-set-preserved c =
     within_more c.args.n c.loop-set.set-index c.args.sets.now _ c.loop-set-test.true c.loop-set.invariant
     (c.if-not-below.ensures.yes tt)
-
-pub returns : goal.returns
-returns c = record {
-  yes = λ t.
-      subst (λ (yss : List (Bor (List ℕ))). Within c.args.n yss) (take_all c.loop-set.set-index c.args.sets.now c.loop-set-test.false) c.loop-set.invariant;
-  only = λ all. tt;
-}

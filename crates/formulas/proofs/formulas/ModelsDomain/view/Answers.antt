@@ -1,4 +1,4 @@
 use Rattle.formulas.proofs.formulas.ModelsDomain.view.Goals as goal
 
-pub returns-then-has_all-clause-past : goal.returns-then-has_all-clause-past
-returns-then-has_all-clause-past c = λ no. absurd (no (c.if-has_all.ensures.yes tt))
+pub returns-clause-past : goal.returns-clause-past
+returns-clause-past c = λ no. absurd (no (c.if-not-has_all.ensures.yes tt))

@@ -1,6 +1,6 @@
 use Rattle.std.proofs.Common.{arith, true, ◌≡◌, ℕ, sym, refl, ◌∙◌, subst}
 use Rattle.rows.specs.Cores.{Empty}
-use Rattle.sharing.specs.Sharing.{read, value_in, entered}
+use Rattle.sharing.specs.Sharing.{read, entered}
 use Rattle.sharing.specs.Rules.{EnterRule}
 use Rattle.sharing.proofs.Closure.{entered_fits, entered_cored}
 use Rattle.rows.proofs.Readings.{stored, read_fits, read_cored}
@@ -13,7 +13,7 @@ returns c =
     let a = read r in
     let v : ℕ = c.args.v in
     let empty : a.has 0 ≡ true = grind arith in
-    let reads : value_in c.new.result ≡ entered a v =
+    let reads : read (record { row = c.new.result }) ≡ entered a v =
     stored Empty c.new.result (entered a v) c.new.ensures refl c.requires.1 (entered_fits a v c.requires.0 (read_fits Empty r.row))
     (entered_cored a v (read_cored Empty r.row))
     (λ h l. c.with_each-map.ensures h ∙ rw (c.sets.ensures h, c.width.ensures, empty)) in

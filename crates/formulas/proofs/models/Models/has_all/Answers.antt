@@ -1,4 +1,4 @@
-use Rattle.formulas.proofs.parts.has_all.Goals as goal
+use Rattle.formulas.proofs.models.Models.has_all.Goals as goal
 
 pub returns : goal.returns
 returns c = record {

@@ -2,14 +2,14 @@ use Rattle.std.proofs.Common.{T, arith}
 use Rattle.std.proofs.lemmas.Grind.{common_steps}
 use Rattle.rows.specs.Cores.{Empty}
 use Rattle.rows.proofs.Readings.{read_fits, read_cored}
-use Rattle.sharing.specs.Sharing.{value_in, Ground}
+use Rattle.sharing.specs.Sharing.{read, Ground}
 use Rattle.sharing.specs.Laws.Exactness.{ground_exact}
-use Rattle.sharing.proofs.parts.none_has.Goals as goal
+use Rattle.sharing.proofs.groups.Groups.none_has.Goals as goal
 
 pub returns : goal.returns
 returns c =
-    let row = c.args.groups.now.row.now in
-    let a = value_in row in
+    let row = c.args.self.now.row in
+    let a = read c.args.self.now in
     let exact = ground_exact a c.args.x (read_fits Empty row) (read_cored Empty row) in
     let yes : T c.is_empty.result → Ground a c.args.x = grind (arith, common_steps) in
     let only : Ground a c.args.x → T c.is_empty.result = grind (arith, common_steps) in
