@@ -14,7 +14,8 @@ pub use refusal::Refusal;
 // The largest width of a value.
 pub const WIDEST: u8 = 8;
 
-// An abstract value, as it lies in a row. The functions never refuse: their caller tests widths and variables first.
+// An abstract value, as it lies in a row. The functions never refuse: their caller tests widths and variables first. Their
+// arguments are, one by one, those that the rules name.
 pub trait Domain: Copy {
     // What a value means; `model.read` gives the value that is read off the words of a row.
     ghost model: { Model Self };

@@ -73,7 +73,7 @@ impl Family {
         none_more(&self.words, &other.words)
     }
 
-    // How many sets there are: the ones in the words.
+    // How many sets there are: the bits that are 1.
     pub fn count(&self) -> u16
         ensures { result ≡ counted sets (holds self.now) }
     {
@@ -146,7 +146,7 @@ fn either(words: &[u64; WORDS], others: &[u64; WORDS]) -> [u64; WORDS]
     )
 }
 
-// Whether the second words have each bit of the first. That the first fit is known of every word, and handed on to a caller.
+// Whether the second words have each bit of the first. Each of the first is below 2^64, which the caller has to know.
 fn none_more(words: &[u64; WORDS], others: &[u64; WORDS]) -> bool
     ensures test { result ≡ list_all (λ p. bit_or p.0 p.1 == p.1) (zip words.now others.now) }
     ensures fit { (k : ℕ) → slice_index words.now k < 2 ^ 64 }

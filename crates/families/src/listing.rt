@@ -14,7 +14,7 @@ pub type Listing<'s, 'v> = Option<&'s [&'v [u8]]>;
 
 impl Family {
     // The sets listed with the core, or no set for never. It refuses a width past the largest, then a listed variable that
-    // is not below the width.
+    // is not below the width. Width and sets are two arguments, as make has them.
     pub fn listed(width: u8, sets: Listing, core: Mask) -> Result<Family, Refusal>
         ensures { Lists width core sets.entry result }
     {
@@ -33,7 +33,7 @@ impl Family {
     }
 }
 
-// Whether each variable of each set is below n.
+// Whether each variable of each set is below n. A `for`, since `all` would have an answer between a wrong test and its line.
 fn within(sets: &[&[u8]], n: u8) -> bool
     ensures yes { T result → Within n sets.now }
     ensures only { Within n sets.now → T result }

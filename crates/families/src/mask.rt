@@ -33,7 +33,6 @@ pub fn all(n: u8) -> Mask
 }
 
 // Whether each variable of the set is below n.
-#[tactic(auto, using(std::proofs::Common::pow_mono))]
 pub(crate) fn lies_below(g: Mask, n: u8) -> bool
     ensures { result ≡ nat_lt g (2 ^ n) }
 {

@@ -1,4 +1,4 @@
-// Values made of what a caller lists.
+// Values made of what a caller lists, by the one call that makes rows. Each domain has its own, to give its own type.
 ghost use Rattle.rows.specs.Cores.{Full as full};
 ghost use Rattle.rows.specs.Make.{Makes, MakesValue};
 ghost use Rattle.formulas.specs.Formulas.{read};

@@ -1,4 +1,5 @@
-// The parts of the functions: tests of their arguments, and what they make of the models.
+// The parts of the functions: tests of their arguments, and what they make of the models. Where a
+// function is the call of its part, the part has the answer, so that a wrong call is refused at its own line.
 ghost use Rattle.std.specs.Prelude.{◌≡◌, ℕ, not, ◌&&◌, ◌==◌, T, bit_and, bit_or, ◌↔◌, length, nat_lt, take};
 ghost use Rattle.domain.specs.Model.{Variable, Sides, Room, AlwaysGround, AlwaysApart};
 ghost use Rattle.domain.specs.Variables.{widest, Below as InRange};

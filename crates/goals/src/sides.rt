@@ -64,7 +64,8 @@ impl<'a> Sides<'a> {
         others.apart_from(row, self.x) && others.apart_from_all(row, self.ys)
     }
 
-    // Whether each of xs is apart from each variable of the sides.
+    // Whether each of xs is apart from each variable of the sides. Here and below the bounds are clauses of their own: as one
+    // fact (`SidesInside`) they stay open at the calls above.
     fn apart_from_all<D: Exact>(self, row: &D, xs: &[u8]) -> bool
         requires left { self.x < D.Domain.model.width (D.Domain.model.read row.now) }
         requires right { InRange (D.Domain.model.width (D.Domain.model.read row.now)) self.ys.now }

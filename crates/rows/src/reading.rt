@@ -1,4 +1,5 @@
-// What is read off a row. That it is stands in the type, so that what works on it need not ask for it.
+// What is read off a row, for `view` and `rank`. That it was read off the row is a ghost field, so that whoever hands on other
+// sets is refused at that line.
 ghost use Rattle.rows.specs.Rows.{Off};
 
 use super::cores::Core;
@@ -19,7 +20,7 @@ impl<'r, K: Core> Reading<'r, K> {
     ghost use Rattle.rows.specs.Rows.{read, ViewReads, ViewFollows, ViewLost};
     ghost use Rattle.rows.specs.Values.{rank as size};
 
-    // The row of the sets cut down to the first variables listed; never, where no cut is a core.
+    // The row of the sets cut down to the first variables listed; never, where none is cut to the core of the new width.
     pub(crate) fn view(&self, xs: &[u8]) -> Row<K>
         ensures reads { ViewReads K.core (read K.core self.now.row.now) (take widest xs.now) (read K.core result) }
         ensures rule { ViewFollows K.core (read K.core self.now.row.now) (take widest xs.now) (read K.core result) }

@@ -95,7 +95,8 @@ impl<K: Core> Row<K> {
         }
     }
 
-    // Each set cut down to the first variables listed, as many as the largest width; never, where no cut is a core.
+    // Each set cut down to the first variables listed, as many as the largest width; never, where no set is cut to the core
+    // of the new width.
     pub fn view(&self, xs: &[u8]) -> Row<K>
         ensures reads { ViewReads K.core (read K.core self.now) (take widest xs.now) (read K.core result) }
         ensures rule { ViewFollows K.core (read K.core self.now) (take widest xs.now) (read K.core result) }
@@ -111,7 +112,8 @@ impl<K: Core> Row<K> {
         self.read().rank()
     }
 
-    // The sets below the width, if the core is there.
+    // The sets below the width, if the core is there. Here and in `made` the core is handed in, so that a wrong one is refused
+    // at the call.
     fn narrowed(&self, first: Mask) -> Family
         requires { first ≡ the_core K.core (read_width self.now) }
         ensures { Off K.core self.now result }
@@ -123,6 +125,7 @@ impl<K: Core> Row<K> {
         }
     }
 
+    // The sets of both.
     fn united(&self, other: &Row<K>) -> Row<K>
         requires { read_width self.now ≡ read_width other.now }
         ensures { read K.core result ≡ joined (read K.core self.now) (read K.core other.now) }

@@ -1,4 +1,5 @@
-// The parts of the functions: families of groups, and the values that they make up.
+// The parts of the functions: families of groups, and the values that they make up. Where a function is the call of its part,
+// the part has the answer, so that a wrong call is refused at its own line.
 ghost use Rattle.std.specs.Prelude.{◌≡◌, ℕ, ◌^◌, ◌≤◌, ◌&&◌, ◌||◌, T, take, ◌==◌, nat_le};
 ghost use Rattle.domain.specs.Model.{AlwaysGround, AlwaysApart, Room};
 ghost use Rattle.domain.specs.Variables.{widest};
