@@ -12,13 +12,14 @@ use Rattle.rows.specs.Values.{Value, Gives}
 abbrev pub Meaning : Core → ℕ → Listing → Value → Type 0
 Meaning c n l a = (n ≤ widest) × InBounds n l × Gives n (Meant (core c n) l) a
 
--- The row of what is meant. Where a test fails, the refusal is that of the first such test.
-abbrev pub MakesRow : {K : Type 0} → Core → ℕ → Listing → Result (Row K) Refusal → Type 0
-MakesRow c n l r = MatchResult r (λ row. Meaning c n l (read c row)) (λ e. Refused n l e)
-
--- A value of what is meant, or the refusal. `reads` gives the value that is read off its words.
+-- The value of what is meant. Where a test fails, the refusal is that of the first such test. `reads` gives the value that is
+-- read off its words.
 abbrev pub MakesValue : Core → {Words : Type 0} → (Words → Value) → ℕ → Listing → Result Words Refusal → Type 0
 MakesValue c reads n l r = MatchResult r (λ w. Meaning c n l (reads w)) (λ e. Refused n l e)
+
+-- the row of what is meant, or the refusal
+abbrev pub MakesRow : {K : Type 0} → Core → ℕ → Listing → Result (Row K) Refusal → Type 0
+MakesRow c n l r = MakesValue c (read c) n l r
 
 -- The place holds what is meant, or is as it was where a test fails. `reads` gives the value that is read off it.
 abbrev pub Makes : Core → {Words : Type 0} → (Words → Value) → ℕ → Listing → Words → Result (Unit {0}) Refusal → Words → Type 0
