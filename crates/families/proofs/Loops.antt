@@ -1,15 +1,17 @@
 -- One turn of each loop over sets and variables: what a turn adds to what the turns before it made. Assumes nothing.
-use Rattle.std.proofs.Common.{cond, [], ◌∷◌, ◌++◌, refl, true, false, ◌⊎◌, inl, inr, ◌≡◌, ℕ, ◌+◌, ◌^◌, ◌<◌, ◌≤◌, Bool, ◌&&◌, ◌||◌, T, eqb, ltb, ◌↔◌, List, length, get_or, take, sym, ap, ◌∙◌, subst, ⊎_elim, arith, eqb→eq, lt→ltb, get_or-take}
+use Rattle.std.proofs.Common.{cond, [], ◌∷◌, ◌++◌, refl, true, false, ◌⊎◌, inl, inr, ◌≡◌, ℕ, ◌+◌, ◌^◌, ◌<◌, ◌≤◌, Bool, ◌&&◌, ◌||◌, T, eqb, ltb, ◌↔◌, List, length, get_or, take, sym, ap, ◌∙◌, subst, ⊎_elim, append-nil, arith, eqb→eq, lt→ltb, get_or-take}
 use lib.Bits.{bit_or}
-use Rattle.std.specs.List.{filter}
+use Rattle.std.specs.List.{filter, fold}
 use lib.Dec.{eqb_refl}
 use Rattle.std.proofs.lemmas.List.{length-take}
-use Rattle.std.proofs.lemmas.Bool.{cases_eq}
+use Rattle.std.proofs.lemmas.List.Elements.{filter-append}
+use Rattle.std.proofs.lemmas.Nat.{le_or_l}
+use Rattle.std.proofs.lemmas.Bool.{cases_eq, ne_eqb}
 use Rattle.domain.specs.Variables.{Listed}
 use Rattle.families.specs.Masks.{bit, cut}
 use Rattle.families.specs.Unions.{Selection, Inside, together}
 use Rattle.families.specs.Families.{inner_union}
-use Rattle.families.specs.Members.{sets_of}
+use Rattle.families.specs.Members.{sets_of, Rising}
 use Rattle.families.specs.declared.family.Family.{Family}
 use Rattle.families.specs.Words.{sets, holds}
 use Rattle.domain.proofs.Booleans.{and_split, and_pair, or_split, or_left, or_right, same_test}
@@ -121,6 +123,30 @@ in_filtered t (k ∷ gs) g l p = step (t k) refl (in_filtered t gs g) l
     step true e rest (inr m) = inr (rest m p)
     step false e rest (inl here) = let p' : T (t k) = subst (λ (j : ℕ). T (t j)) here p in absurd (subst T e p')
     step false e rest (inr m) = rest m p
+
+-- the union of those listed that lie within h
+abbrev pub inner_of : ℕ → List ℕ → ℕ
+inner_of h gs = fold bit_or 0 (filter (λ g. eqb (bit_or g h) h) gs)
+
+rising_right : (gs ks : List ℕ) → Rising (gs ++ ks) → Rising ks
+rising_right [] ks r = r
+rising_right (g ∷ gs) ks r = rising_right gs ks r.1
+
+filter_none : (p : ℕ → Bool) (gs : List ℕ) → ((g : ℕ) → Listed g gs → p g ≡ false) → filter p gs ≡ []
+filter_none p [] none = refl
+filter_none p (g ∷ gs) none =
+    ap (λ (b : Bool). cond b (g ∷ filter p gs) (filter p gs)) (none g (inl refl)) ∙ filter_none p gs (λ k l. none k (inr l))
+
+-- none that comes after h lies within h
+pub inner_stop : (h : ℕ) (gs : List ℕ) (g : ℕ) (rest : List ℕ) → Rising (gs ++ g ∷ rest) → h < g → inner_of h (gs ++ g ∷ rest) ≡ inner_of h gs
+inner_stop h gs g rest rising past =
+    let p : ℕ → Bool = λ k. eqb (bit_or k h) h in
+    let order = rising_right gs (g ∷ rest) rising in
+    let above : (k : ℕ) → Listed k (g ∷ rest) → h < k = λ k l. ⊎_elim (λ e. omega arith) (λ m. let n = order.0 k m in omega arith) l in
+    let none : (k : ℕ) → Listed k (g ∷ rest) → p k ≡ false =
+    λ k l. ne_eqb (bit_or k h) h (λ e. let a = above k l in let b = le_or_l k h in omega arith) in
+    ap (fold bit_or 0)
+    (filter-append p gs (g ∷ rest) ∙ ap (λ (ks : List ℕ). filter p gs ++ ks) (filter_none p (g ∷ rest) none) ∙ append-nil (filter p gs))
 
 module _ (f : Family) (h : ℕ) where
   abbrev inner : List ℕ

@@ -1,9 +1,8 @@
 -- What lies in words, word by word: the laws of `lies` that the code over words stands on. Over any number of words.
 -- Assumes nothing.
-use Rattle.std.proofs.Common.{◌≡◌, ℕ, zero, suc, ◌+◌, ◌*◌, ◌/◌, ◌%◌, ◌^◌, ◌<◌, ◌≤◌, Bool, false, ◌&&◌, ◌||◌, T, eqb, ltb, List, [], ◌∷◌, length, get_or, set, sym, ap, ◌∙◌, subst, ap₂, ⊎_elim, arith, eqb→eq, ltb→lt, lt→ltb, get_or-set_other, get_or-set_same}
+use Rattle.std.proofs.Common.{◌≡◌, ℕ, zero, suc, ◌+◌, ◌*◌, ◌/◌, ◌%◌, ◌^◌, ◌<◌, ◌≤◌, Bool, false, ◌&&◌, ◌||◌, T, eqb, ltb, List, length, get_or, set, sym, ap, ◌∙◌, subst, ap₂, ⊎_elim, arith, eqb→eq, ltb→lt, lt→ltb, get_or-set_other, get_or-set_same}
 use Rattle.std.specs.Array.{IsFromFnResult, IsFromFnResultFrom}
 use Rattle.std.specs.Fn.{Called}
-use Rattle.std.specs.List.{list_all, zip}
 use denote.Param.Members.{Mut}
 use lib.Bits.{bit_or}
 use lib.Count.{ones}
@@ -128,27 +127,6 @@ module _ {F : Type 0} (g : Mut F (ℕ × Unit {0}) ℕ) (f : F) (P : ℕ → ℕ
 -- what every call gives, the array has at each place
 pub from_fn_at : {F : Type 0} {g : Mut F (ℕ × Unit {0}) ℕ} {f : F} {ys : List ℕ} {n : ℕ} → IsFromFnResult g f ys n → (P : ℕ → ℕ → Type 0) → ((i y : ℕ) (q : F) → Called g f (i, tt) y q → (q ≡ f) × P i y) → (k : ℕ) → k < n → P k (get_or ys k 0)
 from_fn_at {F} {g} {f} {ys} {n} made P each k low = made_from g f P ys each 0 n made.each k (omega arith) (omega arith)
-
--- ---- a test of each two words
-
--- the second has each bit of the first
-abbrev pub no_more : ℕ × ℕ → Bool
-no_more p = eqb (bit_or p.0 p.1) p.1
-
-pub zipped_at : (us vs : List ℕ) (k : ℕ) → length us ≡ length vs → k < length us → T (list_all no_more (zip us vs)) → bit_or (get_or us k 0) (get_or vs k 0) ≡ get_or vs k 0
-zipped_at [] vs k same low t = absurd (omega arith)
-zipped_at (u ∷ us) [] k same low t = absurd (omega arith)
-zipped_at (u ∷ us) (v ∷ vs) zero same low t = eqb→eq (bit_or u v) v (and_split (no_more (u, v)) (list_all no_more (zip us vs)) t).0
-zipped_at (u ∷ us) (v ∷ vs) (suc k) same low t =
-    zipped_at us vs k (omega arith) (omega arith) (and_split (no_more (u, v)) (list_all no_more (zip us vs)) t).1
-
-pub at_zipped : (us vs : List ℕ) → length us ≡ length vs → ((k : ℕ) → k < length us → bit_or (get_or us k 0) (get_or vs k 0) ≡ get_or vs k 0) → T (list_all no_more (zip us vs))
-at_zipped [] vs same each = tt
-at_zipped (u ∷ us) [] same each = tt
-at_zipped (u ∷ us) (v ∷ vs) same each =
-    and_pair (no_more (u, v)) (list_all no_more (zip us vs))
-    (subst (λ (w : ℕ). T (eqb w v)) (sym (each 0 (omega arith))) (eqb_refl v))
-    (at_zipped us vs (omega arith) (λ k low. each (suc k) (omega arith)))
 
 -- ---- counting, word by word
 

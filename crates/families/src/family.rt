@@ -1,6 +1,5 @@
 // A set of sets of variables, one bit for each set.
-ghost use Rattle.std.specs.Prelude.{◌≡◌, ℕ, T, take, ◌<◌, ◌==◌, bit_or, slice_index, ◌^◌};
-ghost use Rattle.std.specs.List.{list_all, zip};
+ghost use Rattle.std.specs.Prelude.{◌≡◌, ℕ, T, take, ◌<◌, bit_or, slice_index};
 ghost use Rattle.domain.specs.Variables.{widest};
 ghost use Rattle.families.specs.Families.{Nothing, Everything, Added, Either, Included, Passing, Cuts, AllUnions, inner_union};
 ghost use Rattle.families.specs.Masks.{count as counted};
@@ -14,7 +13,7 @@ use std::array;
 // How many sets there are of variables below the largest width, and how many words hold a bit for each.
 pub const SETS: usize = 1 << WIDEST;
 
-const WORDS: usize = SETS / 64;
+pub(crate) const WORDS: usize = SETS / 64;
 
 // A fixed table, since values lie in lent rows and nothing here allocates.
 #[derive(Clone, Copy)]
@@ -47,6 +46,13 @@ impl Family {
         g < SETS && (self.words[g / 64] >> (g % 64)) % 2 == 1
     }
 
+    // The word at this place; past the last none has a bit.
+    pub(crate) fn word(&self, k: usize) -> u64
+        ensures { result ≡ slice_index self.now.words k }
+    {
+        if k < WORDS { self.words[k] } else { 0 }
+    }
+
     // A set past the largest width is left out.
     pub fn insert(&mut self, g: Mask)
         ensures { Added self.old g self.new }
@@ -65,12 +71,18 @@ impl Family {
         }
     }
 
-    // Whether each set of this family is one of the other's.
+    // Whether each set of this family is one of the other's. A `for`, so that a word left out is refused for that alone: a chain
+    // with a link more is refused whether the link leaves a word out or none.
     pub fn within(&self, other: &Family) -> bool
         ensures yes { T result → Included self.now other.now }
         ensures only { Included self.now other.now → T result }
     {
-        none_more(&self.words, &other.words)
+        for k in 0..WORDS {
+            if self.words[k] | other.words[k] != other.words[k] {
+                return false;
+            }
+        }
+        true
     }
 
     // How many sets there are: the bits that are 1.
@@ -124,13 +136,21 @@ impl Family {
         Family::all().filtered(|h| self.union_within(h) == h)
     }
 
-    // The union of the sets that lie within h: h itself, just where h is a union of some of them.
+    // The union of the sets that lie within h: h itself, just where h is a union of some of them. None that lies within h comes
+    // after h, since they come by rising mask.
     fn union_within(&self, h: Mask) -> Mask
         ensures { result ≡ inner_union self.now h }
     {
-        self.iter()
-            .filter(|g| *g | h == h)
-            .fold(mask::EMPTY, |all, g| all | g)
+        let mut all = mask::EMPTY;
+        for g in self {
+            if g > h {
+                return all;
+            }
+            if g | h == h {
+                all |= g;
+            }
+        }
+        all
     }
 }
 
@@ -144,15 +164,4 @@ fn either(words: &[u64; WORDS], others: &[u64; WORDS]) -> [u64; WORDS]
             ensures { result ≡ bit_or (slice_index words.entry.now k) (slice_index others.entry.now k) }
         { words[k] | others[k] },
     )
-}
-
-// Whether the second words have each bit of the first. Each of the first is below 2^64, which the caller has to know.
-fn none_more(words: &[u64; WORDS], others: &[u64; WORDS]) -> bool
-    ensures test { result ≡ list_all (λ p. bit_or p.0 p.1 == p.1) (zip words.now others.now) }
-    ensures fit { (k : ℕ) → slice_index words.now k < 2 ^ 64 }
-{
-    words
-        .iter()
-        .zip(others)
-        .all(|(word, other)| word | other == *other)
 }

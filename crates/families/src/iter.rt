@@ -3,16 +3,18 @@ ghost use Rattle.std.specs.Prelude.{◌≡◌};
 ghost use Rattle.std.specs.Iterator.{YieldsFirst, item_count};
 ghost use Rattle.families.specs.Members.{sets_of, ListsAll, Rising};
 
-use super::family::{Family, SETS};
+use super::family::{Family, WORDS};
 use super::mask::Mask;
 use std::marker::Model;
 
-// The sets of a family, by rising mask: seen as the list of those that are left.
+// The sets of a family, by rising mask: seen as the list of those that are left. They come word by word, by the bits that are 1,
+// so that what is not there costs nothing.
 #[derive(Drop)]
 pub struct Sets<'f> {
     family: &'f Family,
-    // Every set that is left is at least this.
-    next: Mask,
+    // The word that they come from now, and its bits of those that are left.
+    word: usize,
+    left: u64,
 }
 
 impl<'f> Model for Sets<'f> {
@@ -20,9 +22,9 @@ impl<'f> Model for Sets<'f> {
 
     ghost Value = { List ℕ };
 
-    ghost use Rattle.families.specs.Members.{sets_from};
+    ghost use Rattle.families.specs.Members.{sets_left};
 
-    ghost view = { λ s. sets_from s.next s.family.now };
+    ghost view = { λ s. sets_left s.word s.left s.family.now };
 }
 
 impl<'f> Iterator for Sets<'f> {
@@ -32,22 +34,24 @@ impl<'f> Iterator for Sets<'f> {
 
     ghost remaining = { item_count (λ left. left) };
 
-    #[tactic(auto, using(crate::proofs::Members::from_here, crate::proofs::Members::from_gone, crate::proofs::Members::from_past))]
+    #[tactic(auto, using(crate::proofs::Members::next_set, crate::proofs::Members::next_word, crate::proofs::Members::last_word))]
     fn next(&mut self) -> Option<Mask> {
-        for g in self.next..SETS {
-            if self.family.has(g) {
-                self.next = g + 1;
-                return Some(g);
+        for k in self.word..WORDS {
+            if self.left != 0 {
+                let lowest = self.left.trailing_zeros() as usize;
+                self.left &= !(1 << lowest);
+                return Some(64 * k + lowest);
             }
+            self.word = k + 1;
+            self.left = self.family.word(k + 1);
         }
-        self.next = SETS;
         None
     }
 }
 
 impl Family {
     // Its sets, each once, by rising mask.
-    #[tactic(auto, using(crate::proofs::Members::sets_all, crate::proofs::Members::sets_rise))]
+    #[tactic(auto, using(crate::proofs::Members::first_word, crate::proofs::Members::first_all, crate::proofs::Members::first_rise))]
     pub fn iter(&self) -> Sets<'_>
         ensures list { result ≡ sets_of self.now }
         ensures each { ListsAll self.now result }
@@ -55,7 +59,8 @@ impl Family {
     {
         Sets {
             family: self,
-            next: 0,
+            word: 0,
+            left: self.word(0),
         }
     }
 }
