@@ -8,7 +8,7 @@ use Rattle.families.proofs.Masks.{below_bits, cut_empty}
 use Rattle.families.proofs.Ranges.{cut_whole, whole_cut}
 use Rattle.rows.specs.Cores.{Core, Empty, Full, core}
 use Rattle.rows.specs.Rows.{Cored, Keeps}
-use Rattle.rows.specs.Values.{Value, joined, viewed, viewed_has}
+use Rattle.rows.specs.Values.{Value, never, joined, viewed, viewed_has}
 use Rattle.rows.proofs.Values.{viewed_some, some_viewed}
 
 pub core_low : (c : Core) (n : ℕ) → core c n < 2 ^ n
@@ -25,6 +25,9 @@ cut_core Empty n xs g low e = tt
 cut_core Full n xs g low e = whole_cut n xs g (λ i t. ⊎_elim (λ l. l) (λ m. absurd (below_bits n g i low m t)) (cases_lt i n)) e
 
 -- ---- values that have it
+
+pub never_cored : (c : Core) (n : ℕ) → Cored c (never n)
+never_cored c n g t = t
 
 pub joined_cored : (c : Core) (a b : Value) → a.width ≡ b.width → Cored c a → Cored c b → Cored c (joined a b)
 joined_cored c a b same cored_a cored_b g t =

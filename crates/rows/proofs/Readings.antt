@@ -60,27 +60,29 @@ all_taken r xs below different =
     let narrow = read_narrow r in
     take_all widest xs (omega arith)
 
--- ---- a lawful value that is stored is read
+-- ---- a lawful value that lies there is read
 
-pub stored : {K : Type 0} {n : ℕ} {f : Family} (c : Core) (r : Row K) (a : Value) → (r.width ≡ n) × (r.map ≡ f) → n ≡ a.width → a.width ≤ widest → Fits a → Cored c a →
-    ((h : ℕ) → h < 2 ^ a.width → holds f h ≡ a.has h) → read c r ≡ a
-stored c r a (of_width, of_map) wide narrow fits cored spelt = same_value (read c r) a (read_fits c r) fits same (λ g l. (to g, from g))
+pub read_off : {K : Type 0} (c : Core) (r : Row K) (a : Value) → (read c r).width ≡ a.width → Fits a → Cored c a →
+    ((h : ℕ) → h < 2 ^ a.width → holds r.map h ≡ a.has h) → read c r ≡ a
+read_off c r a e fits cored spelt = same_value (read c r) a (read_fits c r) fits e (λ g l. (to g, from g))
   where
-    same : read_width r ≡ a.width
-    same = omega arith
-
-    here : (g : ℕ) → g < 2 ^ a.width → holds r.map g ≡ a.has g
-    here g l = ap (λ (f : Family). holds f g) of_map ∙ spelt g l
-
     lies : (g : ℕ) → T (a.has g) → T (holds r.map g)
-    lies g t = subst T (sym (here g (fits g t))) t
+    lies g t = subst T (sym (spelt g (fits g t))) t
 
     to : (g : ℕ) → T ((read c r).has g) → T (a.has g)
     to g t =
-        let l : g < 2 ^ a.width = subst (λ (n : ℕ). g < 2 ^ n) same (read_fits c r g t) in
-        subst T (here g l) (read_held c r g t)
+        let l : g < 2 ^ a.width = subst (λ (n : ℕ). g < 2 ^ n) e (read_fits c r g t) in
+        subst T (spelt g l) (read_held c r g t)
 
     from : (g : ℕ) → T (a.has g) → T ((read c r).has g)
     from g t =
-        let there = subst (λ (n : ℕ). T (holds r.map (core c n))) (sym same) (lies (core c a.width) (cored g t)) in
-        read_from c r g (subst (λ (n : ℕ). g < 2 ^ n) (sym same) (fits g t), there, lies g t)
+        let there = subst (λ (n : ℕ). T (holds r.map (core c n))) (sym e) (lies (core c a.width) (cored g t)) in
+        read_from c r g (subst (λ (n : ℕ). g < 2 ^ n) (sym e) (fits g t), there, lies g t)
+
+-- ---- a value that is stored
+
+pub stored : {K : Type 0} {n : ℕ} {f : Family} (c : Core) (r : Row K) (a : Value) → (r.width ≡ n) × (r.map ≡ f) → n ≡ a.width → a.width ≤ widest → Fits a → Cored c a →
+    ((h : ℕ) → h < 2 ^ a.width → holds f h ≡ a.has h) → read c r ≡ a
+stored c r a (of_width, of_map) wide narrow fits cored spelt =
+    let w : read_width r ≡ a.width = omega arith in
+    read_off c r a w fits cored (λ h l. ap (λ (f : Family). holds f h) of_map ∙ spelt h l)

@@ -78,6 +78,9 @@ viewed_rule a fits xs = record {
 
 -- ---- no set past the width
 
+pub never_fits : (n : ℕ) → Fits (never n)
+never_fits n g t = absurd t
+
 pub joined_fits : (a b : Value) → a.width ≡ b.width → Fits a → Fits b → Fits (joined a b)
 joined_fits a b same fits_a fits_b g t =
     ⊎_elim (fits_a g) (λ r. subst (λ (n : ℕ). g < 2 ^ n) (sym same) (fits_b g r)) (or_split (a.has g) (b.has g) t)
