@@ -59,10 +59,11 @@ impl Groups {
         ensures reads { read result ≡ the_entry (read self.now) v }
         ensures rule { EnterRule (read self.now) v (read result) }
     {
-        if !self.some() {
+        let groups = self.row.sets();
+        if !groups.has(mask::EMPTY) {
             return Groups::never(v);
         }
-        let map = with_each(self.row.sets(), self.width(), v);
+        let map = with_each(groups, self.width(), v);
         Groups {
             row: Row::new(v, map),
         }
@@ -105,7 +106,7 @@ impl Groups {
         ensures always { T result → AlwaysGround the_model (read self.now) x }
         ensures exact { AlwaysGround the_model (read self.now) x → T result }
     {
-        having(&self.row.sets(), x).is_empty()
+        self.holding(x).is_empty()
     }
 
     // Whether no group has both.
@@ -115,11 +116,18 @@ impl Groups {
         ensures always { T result → AlwaysApart the_model (read self.now) x y }
         ensures exact { AlwaysApart the_model (read self.now) x y → T result }
     {
-        having(&having(&self.row.sets(), x), y).is_empty()
+        having(&self.holding(x), y).is_empty()
+    }
+
+    // The groups that have x.
+    fn holding(&self, x: u8) -> Family
+        ensures { (g : ℕ) → holds result g ≡ ((read self.now).has g && bit g x) }
+    {
+        having(&self.row.sets(), x)
     }
 }
 
-// The groups that have x.
+// Those of the groups that have x.
 #[tactic(auto, using(crate::proofs::Steps::met_alone))]
 fn having(groups: &Family, x: u8) -> Family
     ensures { Part groups.now (λ g. bit g x) result }

@@ -21,5 +21,5 @@ returns c =
     backed_is a args b c.unpassed-kept.result c.returned-returned.result c.union.result full c.requires c.unpassed-kept.ensures c.returned-returned.ensures c.union.ensures in
     let reads : read (record { row = c.new.result }) ≡ backed a args b =
     stored Empty c.new.result (backed a args b) c.new.ensures c.width.ensures (read_narrow v.row) (backed_fits a args b fits)
-    (backed_cored a args b fits) (λ h low. is h) in
+    (backed_cored a args b full) (λ h low. is h) in
     record { reads = reads; rule = subst (BackRule a args b) (sym reads) (backed_rule a fits args b) }

@@ -16,5 +16,5 @@ returns c =
     let reads : read (record { row = c.new.result }) ≡ entered a v =
     stored Empty c.new.result (entered a v) c.new.ensures refl c.requires.1 (entered_fits a v c.requires.0 (read_fits Empty r.row))
     (entered_cored a v (read_cored Empty r.row))
-    (λ h l. c.with_each-map.ensures h ∙ rw (c.sets.ensures h, c.width.ensures, empty)) in
+    (λ h l. c.with_each-map.ensures h ∙ rw (c.sets-groups.ensures h, c.width.ensures, empty)) in
     record { reads = reads; rule = subst (EnterRule a v) (sym reads) (entered_rule a v) }

@@ -18,5 +18,5 @@ returns c =
     let is = tied_is a x ys c.untouched-kept.result c.args.joined.now c.union.result c.untouched-kept.ensures c.requires c.union.ensures in
     let reads : read (record { row = c.new.result }) ≡ tied a x ys =
     stored Empty c.new.result (tied a x ys) c.new.ensures c.width.ensures (read_narrow v.row) (tied_fits a x ys fits)
-    (tied_cored a x ys fits (read_cored Empty v.row)) (λ h low. is h) in
+    (tied_cored a x ys (read_cored Empty v.row)) (λ h low. is h) in
     record { reads = reads; rule = subst (TieRule a x ys) (sym reads) (tied_rule a fits x ys) }
