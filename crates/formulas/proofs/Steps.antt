@@ -1,14 +1,15 @@
 -- What the parts of the functions take of the models. Assumes nothing.
-use Rattle.std.proofs.Common.{◌≡◌, ℕ, ◌^◌, ◌<◌, ◌≤◌, Bool, false, not, ◌&&◌, T, ltb, ◌⊎◌, ◌↔◌, sym, ◌∙◌, subst, inl, inr, ⊎_elim, arith, pow_mono, T_not}
+use Rattle.std.proofs.Common.{◌≡◌, ℕ, ◌^◌, ◌<◌, ◌≤◌, Bool, false, not, ◌&&◌, T, ltb, ◌⊎◌, ◌↔◌, List, min, sym, ◌∙◌, subst, inl, inr, ⊎_elim, arith, pow_mono, T_not}
 use lib.Bits.{bit_or}
 use lib.Dec.{not_T}
 use Rattle.std.proofs.lemmas.Bool.{lt-ltb}
-use Rattle.domain.specs.Variables.{widest}
+use Rattle.domain.specs.Variables.{Below, widest}
 use Rattle.domain.proofs.Booleans.{and_split, and_pair, same_test, tested}
 use Rattle.families.specs.Masks.{bit, overlaps, alone}
 use Rattle.families.specs.Words.{sets}
 use Rattle.families.proofs.Overlaps.{overlaps_or, overlaps_alone}
 use Rattle.rows.specs.Cores.{Full}
+use Rattle.rows.specs.declared.cores.Full.{Full as Full_row}
 use Rattle.rows.specs.declared.row.Row.{Row}
 use Rattle.rows.specs.Rows.{read}
 use Rattle.rows.specs.Values.{Value}
@@ -51,3 +52,8 @@ none_left a Says mask {left} is meets = (
       let (held, misses) = and_split (a.has g) (not (overlaps g mask)) (subst T (is g) t) in
       T_not (overlaps g mask) misses ((meets g held).1 (each g held))) (λ t. absurd t),
 )
+
+-- ---- variables of a row are variables of one with the same words
+
+pub below_words : (r s : Row Full_row) (xs : List ℕ) → (s.width ≡ r.width) × (s.map ≡ r.map) → Below (min r.width widest) xs → Below (min s.width widest) xs
+below_words r s xs words = subst (λ (n : ℕ). Below (min n widest) xs) (sym words.0)

@@ -64,7 +64,9 @@ impl Domain for Models {
         self.tied(x, ys)
     }
 
-    // Of more variables than the largest width, the first count; where one is past the width, nothing is known.
+    // Of more variables than the largest width, the first count; where one is past the width, nothing is known. By the lemma a
+    // row that is made anew of the same words is as good here, so that one that is read by the other core is refused for that.
+    #[tactic(auto, using(crate::proofs::Steps::below_words))]
     fn view(&self, xs: &[u8]) -> Models
         ensures reads { ViewReads full (read self.now) (take widest xs.now) (read result) }
         ensures rule { ViewFollows full (read self.now) (take widest xs.now) (read result) }

@@ -9,7 +9,8 @@ use std::test::Fail;
 
 #[test]
 fn a_refused_make_leaves_its_place(rt: HostRuntime) -> Result<(), Fail> {
-    let mut place = Models::listed(3, Some(&[&[0, 2], &[1]]))?;
+    let mut place = Models::never(0);
+    Models::make(3, Some(&[&[0, 2], &[1]]), &mut place)?;
     assert_eq!(rt;
         Models::make(9, None, &mut place).map_err(Refusal::number),
         Err(14)
