@@ -1,5 +1,5 @@
 -- What the parts of `tie` and `back` make of the groups, and what they make up. Assumes nothing.
-use Rattle.std.proofs.Common.{◌≡◌, ℕ, ◌<◌, Bool, true, false, not, ◌&&◌, ◌||◌, T, List, sym, refl, ap, ap₂, ◌∙◌, inl, inr, ⊎_elim}
+use Rattle.std.proofs.Common.{◌≡◌, ℕ, ◌<◌, Bool, true, false, not, ◌&&◌, ◌||◌, T, ◌↔◌, List, sym, subst, refl, ap, ap₂, ◌∙◌, inl, inr, ⊎_elim}
 use lib.Bits.{bit_or}
 use Rattle.domain.proofs.Booleans.{and_split, and_pair, or_split, or_left, or_right, same_test}
 use Rattle.families.specs.declared.family.Family.{Family}
@@ -91,3 +91,11 @@ backed_is a args b kept returned all full ends kept_is returned_is all_is h =
     ∙ same_test (stays || comes) (backed_has a args b h)
     (λ t. and_pair (a.has 0) (b.has 0 && (stays || comes)) (empty t) (and_pair (b.has 0) (stays || comes) ends t))
     (λ t. (and_split (b.has 0) (stays || comes) (and_split (a.has 0) (b.has 0 && (stays || comes)) t).1).1)
+
+-- ---- no set is left of a family just where none of it passes
+
+pub none_left : (has passes : ℕ → Bool) {left : ℕ → Bool} → ((g : ℕ) → left g ≡ (has g && passes g)) → ((g : ℕ) → left g ≡ false) ↔ ((g : ℕ) → T (has g) → T (passes g) → ⊥)
+none_left has passes {left} is = (
+  λ none g held pass. subst T (sym (is g) ∙ none g) (and_pair (has g) (passes g) held pass),
+  λ none g. is g ∙ same_test (has g && passes g) false (λ t. let (held, pass) = and_split (has g) (passes g) t in none g held pass) (λ t. absurd t),
+)
